@@ -1,0 +1,119 @@
+// The replay of a leader plan and then a follower plan: questions 9 to 12, both costs and the end state.
+ghost use mathlib.Core.Path.{_≡_};
+ghost use lib.ListN.{take};
+ghost use Rattle.strips.specs.Replay.{knownSteps, returned, replayed};
+ghost use Rattle.strips.specs.Run.{Runnable, Stopped, Numbered};
+use crate::Action;
+use crate::Ended;
+use crate::MAX_FOLLOWER;
+use crate::MAX_STEPS;
+use crate::Minutes;
+use crate::Price;
+use crate::Refusal;
+use crate::Replayed;
+use crate::Task;
+use crate::state::applies;
+use crate::state::holds;
+use crate::state::successor;
+use crate::validity::is_valid;
+use crate::validity::pad;
+
+// How many steps at the front of the plan are numbers of actions.
+fn known_steps(plan: &[u8], count: usize) -> usize
+    ensures { λ r. ⌜ r ≡ knownSteps count (now (plan .entry)) ⌝ }
+{
+    let mut i = 0;
+    while i < plan.len() {
+        let k = plan[i] as usize;
+        if k < 1 {
+            return i;
+        }
+        if count < k {
+            return i;
+        }
+        i += 1;
+    }
+    i
+}
+
+// Where running a plan stopped: after how many steps, in which state, at what cost.
+pub struct Stop {
+    pub steps: usize,
+    pub state: u64,
+    pub cost: u32,
+}
+
+// Runs the plan up to its end or to the first step that does not apply.
+fn run(actions: [Action; MAX_FOLLOWER], count: usize, start: u64, plan: &[u8]) -> Stop
+    requires { ⌜ Runnable actions count (now plan) ⌝ }
+    ensures { λ r. ⌜ Stopped (take count actions) start (now (plan .entry)) r ⌝ }
+{
+    let mut state = start;
+    let mut cost = 0;
+    let mut i = 0;
+    while i < plan.len() {
+        let k = plan[i] as usize;
+        let action = actions[k - 1];
+        if !applies(action, state) {
+            return Stop {
+                steps: i,
+                state,
+                cost,
+            };
+        }
+        state = successor(action, state);
+        cost += action.cost;
+        i += 1;
+    }
+    Stop {
+        steps: i,
+        state,
+        cost,
+    }
+}
+
+// Question 12 and what a replay returns, where questions 9 to 11 have their yes.
+fn replay_known(task: Task, leader_plan: &[u8], follower_plan: &[u8]) -> Replayed
+    requires { ⌜ Numbered task (now «leader_plan») (now «follower_plan») ⌝ }
+    ensures { λ r. ⌜ returned r ≡ replayed task (now («leader_plan» .entry)) (now («follower_plan» .entry)) ⌝ }
+{
+    let leader = task.leader;
+    let first = run(pad(leader), task.leader_count, task.initial, leader_plan);
+    if first.steps < leader_plan.len() {
+        return Replayed::Refused(Refusal::NotApplicable(first.steps + 1));
+    }
+    let follower = task.follower;
+    let second = run(follower, task.follower_count, first.state, follower_plan);
+    if second.steps < follower_plan.len() {
+        return Replayed::Refused(Refusal::NotApplicable(leader_plan.len() + second.steps + 1));
+    }
+    Replayed::Ran(Ended {
+        price: Price(first.cost),
+        minutes: Minutes(second.cost),
+        state: second.state,
+        goal: holds(second.state, task.goal),
+    })
+}
+
+pub fn replay(task: Task, leader_plan: &[u8], follower_plan: &[u8]) -> Replayed
+    ensures { λ r. ⌜ returned r ≡ replayed task (now («leader_plan» .entry)) (now («follower_plan» .entry)) ⌝ }
+{
+    if !is_valid(task) {
+        return Replayed::Refused(Refusal::InvalidTask);
+    }
+    if MAX_STEPS < leader_plan.len() {
+        return Replayed::Refused(Refusal::PlanTooLong);
+    }
+    if MAX_STEPS < follower_plan.len() {
+        return Replayed::Refused(Refusal::PlanTooLong);
+    }
+    let known = known_steps(leader_plan, task.leader_count);
+    if known < leader_plan.len() {
+        return Replayed::Refused(Refusal::UnknownAction(known + 1));
+    }
+    let known = known_steps(follower_plan, task.follower_count);
+    if known < follower_plan.len() {
+        return Replayed::Refused(Refusal::UnknownAction(leader_plan.len() + known + 1));
+    }
+    replay_known(task, leader_plan, follower_plan)
+}
