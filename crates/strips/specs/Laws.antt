@@ -6,6 +6,7 @@ pub mod Padding
 pub mod Steps
 pub mod Running
 pub mod Replay
+pub mod Returned
 pub mod Order
 pub mod ClosedTable
 pub mod Pigeonhole

@@ -1,5 +1,4 @@
 -- What the replay of a leader plan and then a follower plan returns: questions 9 to 12, the costs and the end.
-use mathlib.Core.Path.{_≡_}
 use mathlib.Core.Bool.{Bool, false}
 use mathlib.Core.List.{List, [], _∷_}
 use Prim.Native.Nat.{ℕ, suc, _+_}

@@ -14,6 +14,12 @@ fn sum(a: u32, b: u32) -> u32
     if b <= room { a + b } else { 4_294_967_295 }
 }
 
+fn is_at_most(a: u32, b: u32) -> bool
+    ensures { λ r. ⌜ r ≡ leb a b ⌝ }
+{
+    a <= b
+}
+
 impl Price {
     pub fn plus(self, other: Price) -> Price
         ensures { λ r. ⌜ r .0 ≡ min (self .0 + other .0) maxNumber ⌝ }
@@ -24,7 +30,7 @@ impl Price {
     pub fn at_most(self, other: Price) -> bool
         ensures { λ r. ⌜ r ≡ leb (self .0) (other .0) ⌝ }
     {
-        self.0 <= other.0
+        is_at_most(self.0, other.0)
     }
 }
 
@@ -38,6 +44,6 @@ impl Minutes {
     pub fn at_most(self, other: Minutes) -> bool
         ensures { λ r. ⌜ r ≡ leb (self .0) (other .0) ⌝ }
     {
-        self.0 <= other.0
+        is_at_most(self.0, other.0)
     }
 }

@@ -1,13 +1,15 @@
 -- What the bit formulas of a state say fact by fact.
-use mathlib.Core.Path.{_≡_, refl, sym, ap, _∙_}
+use mathlib.Core.Path.{_≡_, refl, ap}
 use mathlib.Core.Logic.{_⊎_, inl, inr, _↔_}
 use Prim.Native.Nat.{ℕ, zero, suc, _+_, _-_, _*_, _/_, _%_, _^_, _≤_, _<_, min, max}
-use native.Mathlib.Nat.{div-div-eq-div-mul, pow-suc, mul-comm}
-use native.Mathlib.Decide.{ℕ-discrete}
+use native.Mathlib.Nat.{div-div-eq-div-mul, div-eq-of-lt, div-lt-iff-lt-mul, lt-of-lt-of-le, zero-div, pow-suc, mul-comm, one-mul}
+use native.Mathlib.Decide.{ℕ-discrete, decLe}
 use native.Mathlib.Omega.{arith}
+use lib.Pow.{pow-pos, pow-mono, pow-add}
 use lib.Bits.{bitAnd, bitOr, bitXor, differ, and-shr, or-shr, xor-shr, and-step, or-step, xor-step}
 use Rattle.strips.specs.declared.Action.{Action}
-use Rattle.strips.specs.State.{Has, Holds, Applies, without, after}
+use Rattle.strips.specs.Task.{Within}
+use Rattle.strips.specs.State.{Has, Holds, Applies, after}
 
 abbrev bit : ℕ → ℕ → ℕ
 bit k s = s / 2 ^ k % 2
@@ -36,7 +38,7 @@ same-bits (suc n) a b ha hb same =
     omega arith
   where
     down : (k s : ℕ) → s / 2 / 2 ^ k ≡ s / 2 ^ suc k
-    down k s = rw (div-div-eq-div-mul, pow-suc, mul-comm) refl
+    down k s = rw (div-div-eq-div-mul, pow-suc, mul-comm 2 (2 ^ k)) refl
 
 -- fact k + 1 is bit k
 at-bit : (k s set : ℕ) → (Has set (suc k) → Has s (suc k)) → bit k set ≡ 1 → bit k s ≡ 1
@@ -77,3 +79,22 @@ after-bit a s k = (λ e. by e (ℕ-discrete (bit k (a .add)) 1), back)
 -- a fact is in the next state iff the action adds it, or the state has it and the action does not delete it
 pub has-after : (a : Action) (s f : ℕ) → Has (after a s) f ↔ (Has (a .add) f ⊎ (Has s f × (Has (a .delete) f → ⊥)))
 has-after a s f = after-bit a s (f - 1)
+
+-- a set is within the first n facts iff each fact that it has is one of them
+pub within-each : (n set : ℕ) → Within n set ↔ ((f : ℕ) → 1 ≤ f → Has set f → f ≤ n)
+within-each n set = (λ h f o e. low h f o e (decLe f n), λ g. inside (same-bits (set / 2 ^ n) _ 0 (omega arith) (omega arith) (λ k. rw (div-div-eq-div-mul, ← pow-add 2 n k) (high g k))))
+  where
+    low : Within n set → (f : ℕ) → 1 ≤ f → Has set f → Dec (f ≤ n) → f ≤ n
+    low h f o e (yes l) = l
+    low h f o e (no l) =
+        let none : set / 2 ^ (f - 1) ≡ 0 = div-eq-of-lt (lt-of-lt-of-le h (pow-mono (omega arith))) in
+        absurd (omega arith)
+
+    high : ((f : ℕ) → 1 ≤ f → Has set f → f ≤ n) → (k : ℕ) → bit (n + k) set ≡ 0 / 2 ^ k % 2
+    high g k =
+        let place : suc (n + k) - 1 ≡ n + k = omega arith in
+        let no-fact : (bit (n + k) set ≡ 1) → ⊥ = λ e. let far : suc (n + k) ≤ n = g (suc (n + k)) (omega arith) (rw place e) in omega arith in
+        rw (zero-div (2 ^ k)) (omega (arith, no-fact))
+
+    inside : set / 2 ^ n ≡ 0 → set < 2 ^ n
+    inside z = let h : set < 1 * 2 ^ n = div-lt-iff-lt-mul (pow-pos n) .0 (omega arith) in rw one-mul at h

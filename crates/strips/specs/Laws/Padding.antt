@@ -1,15 +1,15 @@
 -- The leader's places with unused ones behind them.
-use mathlib.Core.Path.{_≡_, refl, sym, ap, _∙_}
-use mathlib.Core.Logic.{_↔_, ⊎-elim}
+use mathlib.Core.Path.{_≡_, refl, sym, _∙_}
+use mathlib.Core.Logic.{_↔_}
 use mathlib.Core.List.{List, _∷_, [], _++_, append-assoc}
-use Prim.Native.Nat.{ℕ, zero, suc, _+_, _-_, _≤_, _<_}
+use Prim.Native.Nat.{ℕ, suc, _+_, _-_, _≤_, _<_}
 use native.Mathlib.Numerals.{add-one}
 use native.Mathlib.Decide.{decLt}
 use native.Mathlib.Omega.{arith}
 use lib.ListN.{length, getD, take, set, replicate, length-append, length-replicate, length-take, getD-replicate, List·getD-append}
 use lib.Seq.{take-all, take-suc, take-append-le, set-at, getD-append-add}
 use Rattle.strips.specs.Limits.{maxLeader, maxFollower}
-use Rattle.strips.specs.Task.{idle, padded, Proper, Places}
+use Rattle.strips.specs.Task.{idle, padded, Places}
 use Rattle.strips.specs.declared.Action.{Action}
 
 -- the first i places, and behind them unused ones up to n, with the next place stored

@@ -1,11 +1,11 @@
 -- What a replay returns, case by case; and that it ran just where both plans run.
-use mathlib.Core.Path.{_≡_, refl, sym, ap, _∙_}
+use mathlib.Core.Path.{_≡_, sym, ap, _∙_}
 use mathlib.Core.List.{List}
 use Prim.Native.Nat.{ℕ, _+_, _≤_, _<_}
 use native.Mathlib.Decide.{ℕ-discrete, decLe, decLt}
 use native.Mathlib.Omega.{arith}
 use lib.ListN.{length, take, length-take}
-use Rattle.strips.specs.Decision.{says, ask}
+use Rattle.strips.specs.Decision.{says}
 use Rattle.strips.specs.Limits.{maxSteps}
 use Rattle.strips.specs.State.{holds?}
 use Rattle.strips.specs.Task.{Valid, leaderActions, followerActions, padded}

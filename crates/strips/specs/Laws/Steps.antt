@@ -1,14 +1,14 @@
 -- Plans step by step: how many steps pass a test, the state they lead to, and that a plan whose steps all pass runs.
-use mathlib.Core.Path.{_≡_, refl, sym, ap, _∙_}
+use mathlib.Core.Path.{_≡_, refl, ap, _∙_}
 use mathlib.Core.List.{List, [], _∷_, _++_}
-use Prim.Native.Nat.{ℕ, zero, suc, _+_, _-_, _*_, _≤_, _<_}
+use Prim.Native.Nat.{ℕ, zero, suc, _+_, _-_, _≤_, _<_}
 use native.Mathlib.Numerals.{add-one}
 use native.Mathlib.Omega.{arith}
 use lib.ListN.{length, getD, take, drop}
 use lib.Seq.{drop-cons, drop-length, take-suc, getD-take}
 use Rattle.strips.specs.State.{Applies, applies?, after}
 use Rattle.strips.specs.Task.{idle}
-use Rattle.strips.specs.Plan.{Known, known?, action, cost, Legal, Runs, done, next}
+use Rattle.strips.specs.Plan.{Known, known?, action, cost, Runs, done, next}
 use Rattle.strips.specs.Replay.{passing, knownSteps, appliedSteps, endState}
 use Rattle.strips.specs.Laws.Decision.{asked-yes, asked-no}
 use Rattle.strips.specs.Laws.Order.{cost-snoc}

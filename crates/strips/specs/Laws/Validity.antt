@@ -1,8 +1,8 @@
 -- Question 9 has a yes or a no, and so has each part of it; what a yes says of the actions.
 use mathlib.Core.Path.{_≡_, refl, sym, ap, _∙_}
-use mathlib.Core.List.{List, [], _∷_, _++_}
+use mathlib.Core.List.{List}
 use Prim.Native.Nat.{ℕ, zero, suc, _-_, _*_, _/_, _^_, _≤_, _<_}
-use native.Mathlib.Decide.{ℕ-discrete, decLe, decLt, map-dec}
+use native.Mathlib.Decide.{ℕ-discrete, decLe, decLt}
 use native.Mathlib.Omega.{arith}
 use mathlib.Core.Logic.{Dec·and, Dec·of-iff}
 use native.Mathlib.Nat.{div-eq-of-lt, div-lt-iff-lt-mul, one-mul}

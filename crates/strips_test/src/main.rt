@@ -1,0 +1,210 @@
+// Replays on document 01's worked hall and on records that break a rule, and the smaller of two plans.
+// What it prints is compared with the file stdout.
+use libc::STDOUT_FILENO;
+use strips::Action;
+use strips::Ended;
+use strips::Refusal;
+use strips::Replayed;
+use strips::Task;
+
+fn print(text: &[u8]) {
+    io::write_all(STDOUT_FILENO, text);
+}
+
+fn print_field(name: &[u8], number: u64) {
+    print(name);
+    print(b"=");
+    io::print_decimal(STDOUT_FILENO, number);
+}
+
+fn print_ended(end: Ended) {
+    print_field(b" price", end.price.0 as u64);
+    print_field(b" minutes", end.minutes.0 as u64);
+    print_field(b" state", end.state);
+    print_field(b" goal", end.goal as u64);
+    print(b"\n");
+}
+
+fn print_refusal(refusal: Refusal) {
+    print_field(b" refused", refusal.number() as u64);
+    print_field(b" place", refusal.place() as u64);
+    print(b"\n");
+}
+
+fn replay(label: &[u8], task: Task, leader_plan: &[u8], follower_plan: &[u8]) {
+    print(label);
+    print(b":");
+    match strips::replay(task, leader_plan, follower_plan) {
+        Replayed::Ran(end) => print_ended(end),
+        Replayed::Refused(refusal) => print_refusal(refusal),
+    }
+}
+
+fn action(cost: u32, precondition: u64, delete: u64, add: u64) -> Action {
+    Action {
+        cost,
+        precondition,
+        delete,
+        add,
+    }
+}
+
+// Document 01's hall: 1 tray in the house, 2 tray at the dock, 3 upper belt runs, 4 lower belt runs.
+fn worked() -> Task {
+    let idle = action(0, 0, 0, 0);
+    let mut leader = [idle; 16];
+    leader[0] = action(2, 4, 4, 0);
+    leader[1] = action(5, 8, 8, 0);
+    let mut follower = [idle; 32];
+    follower[0] = action(3, 5, 1, 2);
+    follower[1] = action(7, 9, 1, 2);
+    Task {
+        facts: 4,
+        initial: 13,
+        goal: 2,
+        leader_count: 2,
+        follower_count: 2,
+        leader,
+        follower,
+    }
+}
+
+fn plans() {
+    let task = worked();
+    replay(b"nothing", task, &[], &[]);
+    replay(b"move 1", task, &[], &[1]);
+    replay(b"outage 1, move 2", task, &[1], &[2]);
+    replay(b"outages 1 2", task, &[1, 2], &[]);
+    replay(b"outages 2 1", task, &[2, 1], &[]);
+    replay(b"moves 1 1", task, &[], &[1, 1]);
+    replay(b"outages 1 1", task, &[1, 1], &[]);
+    replay(b"outage 1, move 1", task, &[1], &[1]);
+    replay(b"outages 1 2, moves 2", task, &[1, 2], &[2]);
+}
+
+fn numbers() {
+    let task = worked();
+    replay(b"outage 0", task, &[0], &[]);
+    replay(b"outage 3", task, &[1, 3], &[]);
+    replay(b"move 0", task, &[1], &[2, 0]);
+    replay(b"move 33", task, &[1, 2], &[33]);
+    replay(b"move 255", task, &[], &[255]);
+    replay(b"moves 1 1 9", task, &[], &[1, 1, 9]);
+    replay(b"outages 1 1, move 9", task, &[1, 1], &[9]);
+}
+
+// A task whose one move changes nothing, so that plans of any length run.
+fn patient() -> Task {
+    let mut task = worked();
+    task.follower[0] = action(10_000, 0, 0, 0);
+    task.leader[0] = action(10_000, 0, 0, 0);
+    task
+}
+
+fn lengths() {
+    let task = patient();
+    let longest = [1u8; 32767];
+    let too_long = [1u8; 32768];
+    replay(b"longest outages", task, &longest, &[]);
+    replay(b"longest moves", task, &[], &longest);
+    replay(b"outages too long", task, &too_long, &[]);
+    replay(b"moves too long", task, &[], &too_long);
+    replay(b"too long, and no action", task, &too_long, &[9]);
+}
+
+// A fact that an action deletes and adds is there afterwards.
+fn overlap() {
+    let mut task = worked();
+    task.follower[0] = action(1, 0, 3, 2);
+    replay(b"delete and add of one fact", task, &[], &[1]);
+    task.facts = 64;
+    task.goal = 9_223_372_036_854_775_808;
+    task.follower[1] = action(10_000, 0, 13, 9_223_372_036_854_775_808);
+    replay(b"fact 64", task, &[], &[2]);
+}
+
+fn invalid_sizes() {
+    let mut task = worked();
+    task.facts = 0;
+    replay(b"no facts", task, &[], &[]);
+    task.facts = 65;
+    replay(b"65 facts", task, &[], &[]);
+    task = worked();
+    task.leader_count = 17;
+    replay(b"17 outages", task, &[], &[]);
+    task = worked();
+    task.follower_count = 33;
+    replay(b"33 moves", task, &[], &[]);
+}
+
+fn invalid_sets() {
+    let mut task = worked();
+    task.initial = 16;
+    replay(b"start fact 5 of 4", task, &[], &[]);
+    task = worked();
+    task.goal = 16;
+    replay(b"goal fact 5 of 4", task, &[], &[]);
+    task = worked();
+    task.leader[1] = action(5, 16, 0, 0);
+    replay(b"needs fact 5 of 4", task, &[], &[]);
+    task.leader[1] = action(5, 0, 16, 0);
+    replay(b"drops fact 5 of 4", task, &[], &[]);
+    task.leader[1] = action(5, 0, 0, 16);
+    replay(b"gives fact 5 of 4", task, &[], &[]);
+    task = worked();
+    task.follower[1] = action(7, 0, 0, 16);
+    replay(b"move gives fact 5 of 4", task, &[], &[]);
+}
+
+fn invalid_places() {
+    let mut task = worked();
+    task.leader[0] = action(10_001, 4, 4, 0);
+    replay(b"price 10001", task, &[], &[]);
+    task = worked();
+    task.follower[0] = action(10_001, 5, 1, 2);
+    replay(b"minutes 10001", task, &[], &[]);
+    task = worked();
+    task.leader[2] = action(1, 0, 0, 0);
+    replay(b"unused outage with a price", task, &[], &[]);
+    task = worked();
+    task.leader[15] = action(0, 0, 0, 1);
+    replay(b"unused outage that gives", task, &[], &[]);
+    task = worked();
+    task.follower[31] = action(0, 1, 0, 0);
+    replay(b"unused move that needs", task, &[], &[]);
+    task.follower[31] = action(0, 0, 1, 0);
+    replay(b"unused move that drops, and no action", task, &[9], &[9]);
+}
+
+fn print_step(k: u8) {
+    print_field(b" step", k as u64);
+}
+
+fn print_plan(plan: &[u8]) {
+    let mut i = 0;
+    while i < plan.len() {
+        print_step(plan[i]);
+        i += 1;
+    }
+}
+
+fn smaller<'a>(label: &[u8], p: &'a [u8], q: &'a [u8]) {
+    print(label);
+    print(b":");
+    print_plan(strips::smaller(p, q));
+    print(b"\n");
+}
+
+fn main() {
+    plans();
+    numbers();
+    lengths();
+    overlap();
+    invalid_sizes();
+    invalid_sets();
+    invalid_places();
+    smaller(b"fewer steps", &[2, 1], &[9]);
+    smaller(b"first difference", &[2, 1, 9], &[2, 3, 1]);
+    smaller(b"second smaller", &[2, 3, 1], &[2, 1, 9]);
+    smaller(b"empty", &[1], &[]);
+}
