@@ -3,6 +3,7 @@ ghost use mathlib.Core.Path.{_≡_};
 ghost use Prim.Native.Nat.{_+_, min};
 ghost use lib.Dec.{leb};
 ghost use Rattle.strips.specs.Limits.{maxNumber};
+use crate::MAX_NUMBER;
 use crate::Minutes;
 use crate::Price;
 
@@ -10,8 +11,8 @@ use crate::Price;
 fn sum(a: u32, b: u32) -> u32
     ensures { λ r. ⌜ r ≡ min (a + b) maxNumber ⌝ }
 {
-    let room = 4_294_967_295 - a;
-    if b <= room { a + b } else { 4_294_967_295 }
+    let room = MAX_NUMBER - a;
+    if b <= room { a + b } else { MAX_NUMBER }
 }
 
 fn is_at_most(a: u32, b: u32) -> bool

@@ -26,6 +26,8 @@ pub const MAX_COST: u32 = 10_000;
 
 pub const MAX_STEPS: usize = 32_767;
 
+pub const MAX_NUMBER: u32 = 4_294_967_295;
+
 // An action: its cost (a price for the leader, minutes for the follower) and three sets of facts.
 // A set of facts is a number in which fact f is bit f - 1.
 pub struct Action {

@@ -1,19 +1,19 @@
 -- Question 9 has a yes or a no, and so has each part of it; what a yes says of the actions.
 use mathlib.Core.Path.{_≡_, refl, sym, ap, _∙_}
 use mathlib.Core.List.{List}
-use Prim.Native.Nat.{ℕ, zero, suc, _-_, _*_, _/_, _^_, _≤_, _<_}
+use Prim.Native.Nat.{ℕ, zero, suc, _-_, _/_, _^_, _≤_, _<_}
 use native.Mathlib.Decide.{ℕ-discrete, decLe, decLt}
 use native.Mathlib.Omega.{arith}
 use mathlib.Core.Logic.{Dec·and, Dec·of-iff}
-use native.Mathlib.Nat.{div-eq-of-lt, div-lt-iff-lt-mul, one-mul}
+use native.Mathlib.Nat.{div-eq-of-lt}
 use lib.Dec.{eqb}
-use lib.Pow.{pow-pos}
 use lib.ListN.{length, getD, take, length-take, List·getD-eq-default}
 use lib.Seq.{getD-take}
 use Rattle.strips.specs.Limits.{maxFacts, maxLeader, maxFollower, maxCost}
 use Rattle.strips.specs.Task.{idle, Within, Proper, Places, Valid, leaderActions, followerActions}
 use Rattle.strips.specs.Plan.{action}
 use Rattle.strips.specs.Decision.{says}
+use Rattle.strips.specs.Laws.Facts.{within-quotient}
 use Rattle.strips.specs.Laws.Decision.{says-eqb, says-same}
 use Rattle.strips.specs.declared.Action.{Action}
 use Rattle.strips.specs.declared.Task.{Task}
@@ -43,10 +43,7 @@ within? n set = decLt set (2 ^ n)
 
 -- a set is within the first n facts just where nothing is left of it after a shift by n
 pub within-shift : (n set : ℕ) → eqb (set / 2 ^ n) 0 ≡ says (within? n set)
-within-shift n set = says-eqb _ 0 ∙ says-same _ _ (λ z. inside z) (λ h. div-eq-of-lt h)
-  where
-    inside : set / 2 ^ n ≡ 0 → set < 2 ^ n
-    inside z = let h : set < 1 * 2 ^ n = div-lt-iff-lt-mul (pow-pos n) .0 (omega arith) in rw one-mul at h
+within-shift n set = says-eqb _ 0 ∙ says-same _ _ (within-quotient n set) (λ h. div-eq-of-lt h)
 
 unfoldable pub proper? : (facts : ℕ) (a : Action) → Dec (Proper facts a)
 proper? facts a =
