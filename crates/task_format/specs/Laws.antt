@@ -1,0 +1,10 @@
+-- What is proved about the meanings.
+pub mod Deciding
+pub mod Choice
+pub mod Parse
+pub mod Text
+pub mod Lines
+pub mod Digits
+pub mod Fields
+pub mod Size
+pub mod Value

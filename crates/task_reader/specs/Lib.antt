@@ -1,0 +1,5 @@
+-- What the contracts of this crate mean; `Laws` has what is proved about them.
+pub mod Reading
+pub mod Scan
+pub mod Line
+pub mod Laws

@@ -1,0 +1,36 @@
+-- A reading as document 01 reports it: number, place and record.
+use mathlib.Core.Bool.{Bool, true, false}
+use mathlib.Core.List.{List, [], _∷_}
+use Prim.Native.Nat.{ℕ}
+use Rattle.strips.specs.Refusal.{numberOf, placeOf}
+use Rattle.strips.specs.declared.Refusal.the-variants.{TextGoesOn}
+use Rattle.strips.specs.declared.Task.{Task}
+use Rattle.task_format.specs.Parse.{Read, refused, accepted}
+use Rattle.task_reader.specs.declared.Verdict.{Verdict}
+use Rattle.task_reader.specs.declared.Verdict.the-variants.{Accepted, Refused}
+use Rattle.task_reader.specs.declared.Reading.{Reading}
+
+unfoldable pub reported : Verdict → Task → Read
+reported Accepted t = accepted t
+reported (Refused q) t = record { number = numberOf q; place = placeOf q; task = t }
+
+abbrev pub returned : Reading → Read
+returned r = reported (r .verdict) (r .task)
+
+-- what reading goes on to where a verdict is in favour, and the refusal where it is not
+unfoldable pub unless : Verdict → Read → Read
+unless Accepted rest = rest
+unless (Refused q) rest = refused (numberOf q) (placeOf q)
+
+unfoldable pub accepts : Verdict → Bool
+accepts Accepted = true
+accepts (Refused q) = false
+
+-- a reading with the record of zeros in place of a part of one
+abbrev pub tidied : Reading → Read
+tidied r = unless (r .verdict) (accepted (r .task))
+
+-- question 7, of what is left of the text behind the last due line
+unfoldable pub endVerdict : List ℕ → ℕ → Verdict
+endVerdict [] n = Accepted
+endVerdict (b ∷ t) n = Refused (TextGoesOn n)

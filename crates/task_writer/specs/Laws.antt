@@ -1,0 +1,3 @@
+-- What is proved about the writer's meanings.
+pub mod Puts
+pub mod Written
