@@ -1,0 +1,9 @@
+-- What is proved about the meanings.
+pub mod Update
+pub mod Chains
+pub mod Ties
+pub mod Relaxing
+pub mod Trying
+pub mod Settling
+pub mod Nearest
+pub mod Problems

@@ -1,0 +1,6 @@
+-- What is proved about the meanings.
+pub mod Unique
+pub mod Capacity
+pub mod Nearest
+pub mod Working
+pub mod Promise

@@ -1,0 +1,457 @@
+// Best responses on document 01's worked hall and on tasks with detours, loops and ties, all with lent slices that hold other
+// numbers before. What it prints is compared with the file stdout.
+ghost use Prim.Native.Nat.{_≤_};
+use libc::STDOUT_FILENO;
+use response::Answered;
+use response::best_response;
+use strips::Action;
+use strips::Answer;
+use strips::Refusal;
+use strips::Task;
+
+fn print(text: &[u8]) {
+    io::write_all(STDOUT_FILENO, text);
+}
+
+fn print_field(name: &[u8], number: u64) {
+    print(name);
+    print(b"=");
+    io::print_decimal(STDOUT_FILENO, number);
+}
+
+fn print_answer(answer: Answer) {
+    match answer {
+        Answer::Cost(minutes) => print_field(b" answer", minutes.0 as u64),
+        Answer::None => print(b" answer=none"),
+    }
+}
+
+fn print_refusal(refusal: Refusal) {
+    print_field(b" refused", refusal.number() as u64);
+    print_field(b" place", refusal.place() as u64);
+}
+
+fn print_answered(answered: Answered) {
+    match answered {
+        Answered::Found(answer, steps) => {
+            print_answer(answer);
+            print_field(b" steps", steps as u64);
+        }
+        Answered::Refused(refusal) => print_refusal(refusal),
+    }
+}
+
+fn print_step(step: u8) {
+    print(b",");
+    io::print_decimal(STDOUT_FILENO, step as u64);
+}
+
+fn print_plan(plan: &[u8]) {
+    print(b" plan");
+    let mut i = 0;
+    while i < plan.len() {
+        print_step(plan[i]);
+        i += 1;
+    }
+}
+
+fn is_zero(number: u64) -> usize
+    ensures { λ r. ⌜ r ≤ 1 ⌝ }
+{
+    if number == 0 { 1 } else { 0 }
+}
+
+// How many places are zero.
+fn clear_states(places: &[u64]) -> usize {
+    let mut clear = 0;
+    let mut i = 0;
+    while i < places.len() {
+        clear += is_zero(places[i]);
+        i += 1;
+    }
+    clear
+}
+
+fn clear_rows(places: &[usize]) -> usize {
+    let mut clear = 0;
+    let mut i = 0;
+    while i < places.len() {
+        clear += is_zero(places[i] as u64);
+        i += 1;
+    }
+    clear
+}
+
+fn clear_bytes(places: &[u8]) -> usize {
+    let mut clear = 0;
+    let mut i = 0;
+    while i < places.len() {
+        clear += is_zero(places[i] as u64);
+        i += 1;
+    }
+    clear
+}
+
+fn respond(
+    label: &[u8],
+    task: Task,
+    leader_plan: &[u8],
+    states: &mut [u64],
+    keys: &mut [u64],
+    links: &mut [usize],
+    tree: &mut [usize],
+    marks: &mut [u8],
+    plan: &mut [u8],
+) {
+    print(label);
+    print(b":");
+    let answered = best_response(task, leader_plan, states, keys, links, tree, marks, plan);
+    print_answered(answered);
+    print_plan(plan);
+    print(b" zeros");
+    print_field(b" states", clear_states(states) as u64);
+    print_field(b" keys", clear_states(keys) as u64);
+    print_field(b" links", clear_rows(links) as u64);
+    print_field(b" tree", clear_rows(tree) as u64);
+    print_field(b" marks", clear_bytes(marks) as u64);
+    print(b"\n");
+}
+
+// Slices of 7 places, which is document 01's reach, and 3 for the plan.
+fn tight(label: &[u8], task: Task, leader_plan: &[u8]) {
+    let mut states = [9u64; 7];
+    let mut keys = [8u64; 7];
+    let mut links = [7usize; 7];
+    let mut tree = [6usize; 7];
+    let mut marks = [2u8; 7];
+    let mut plan = [99u8; 3];
+    respond(
+        label,
+        task,
+        leader_plan,
+        &mut states,
+        &mut keys,
+        &mut links,
+        &mut tree,
+        &mut marks,
+        &mut plan,
+    );
+}
+
+// One of the slices has 6 places.
+fn too_tight(label: &[u8], task: Task, leader_plan: &[u8]) {
+    let mut states = [9u64; 7];
+    let mut keys = [8u64; 8];
+    let mut links = [7usize; 9];
+    let mut tree = [6usize; 6];
+    let mut marks = [1u8; 7];
+    let mut plan = [99u8; 3];
+    respond(
+        label,
+        task,
+        leader_plan,
+        &mut states,
+        &mut keys,
+        &mut links,
+        &mut tree,
+        &mut marks,
+        &mut plan,
+    );
+}
+
+// One of the slices has no place.
+fn no_place(label: &[u8], task: Task, leader_plan: &[u8]) {
+    let mut states = [9u64; 7];
+    let mut keys = [8u64; 7];
+    let mut links = [7usize; 7];
+    let mut tree = [6usize; 7];
+    let mut marks = [3u8; 0];
+    let mut plan = [99u8; 3];
+    respond(
+        label,
+        task,
+        leader_plan,
+        &mut states,
+        &mut keys,
+        &mut links,
+        &mut tree,
+        &mut marks,
+        &mut plan,
+    );
+}
+
+// More places than any of the tasks needs, and 3 for the plan.
+fn roomy(label: &[u8], task: Task, leader_plan: &[u8]) {
+    let mut states = [9u64; 64];
+    let mut keys = [8u64; 65];
+    let mut links = [7usize; 66];
+    let mut tree = [6usize; 67];
+    let mut marks = [2u8; 68];
+    let mut plan = [99u8; 3];
+    respond(
+        label,
+        task,
+        leader_plan,
+        &mut states,
+        &mut keys,
+        &mut links,
+        &mut tree,
+        &mut marks,
+        &mut plan,
+    );
+}
+
+// The same with one place less for the plan.
+fn short_plan(label: &[u8], task: Task, leader_plan: &[u8]) {
+    let mut states = [9u64; 64];
+    let mut keys = [8u64; 65];
+    let mut links = [7usize; 66];
+    let mut tree = [6usize; 67];
+    let mut marks = [2u8; 68];
+    let mut plan = [99u8; 2];
+    respond(
+        label,
+        task,
+        leader_plan,
+        &mut states,
+        &mut keys,
+        &mut links,
+        &mut tree,
+        &mut marks,
+        &mut plan,
+    );
+}
+
+fn action(cost: u32, precondition: u64, delete: u64, add: u64) -> Action {
+    Action {
+        cost,
+        precondition,
+        delete,
+        add,
+    }
+}
+
+// A task with facts 1 to 6 and no actions; fact 1 is there at first, fact 6 is the goal.
+fn bare() -> Task {
+    let idle = action(0, 0, 0, 0);
+    Task {
+        facts: 6,
+        initial: 1,
+        goal: 32,
+        leader_count: 0,
+        follower_count: 0,
+        leader: [idle; 16],
+        follower: [idle; 32],
+    }
+}
+
+// Document 01's hall: 1 tray in the house, 2 tray at the dock, 3 upper belt runs, 4 lower belt runs.
+fn worked() -> Task {
+    let mut task = bare();
+    task.facts = 4;
+    task.initial = 13;
+    task.goal = 2;
+    task.leader_count = 2;
+    task.follower_count = 2;
+    task.leader[0] = action(2, 4, 4, 0);
+    task.leader[1] = action(5, 8, 8, 0);
+    task.follower[0] = action(3, 5, 1, 2);
+    task.follower[1] = action(7, 9, 1, 2);
+    task
+}
+
+fn floor() {
+    let task = worked();
+    tight(b"no outage", task, &[]);
+    tight(b"outage 1", task, &[1]);
+    tight(b"outage 2", task, &[2]);
+    tight(b"outages 1 2", task, &[1, 2]);
+    too_tight(b"6 places", task, &[]);
+    roomy(b"no outage, more places", task, &[]);
+    roomy(b"no moves", bare(), &[]);
+    let mut free = worked();
+    free.goal = 0;
+    roomy(b"empty goal", free, &[1]);
+}
+
+fn refusals() {
+    let task = worked();
+    no_place(b"no place", task, &[9]);
+    let mut broken = worked();
+    broken.facts = 0;
+    tight(b"no facts", broken, &[9]);
+    tight(b"outage 3", task, &[1, 3]);
+    tight(b"outages 1 1", task, &[1, 1]);
+    too_tight(b"outages 2 2, 6 places", task, &[2, 2]);
+}
+
+// The direct way costs 100; the way over facts 2 and 3 costs 90.
+fn detour() {
+    let mut task = bare();
+    task.follower_count = 4;
+    task.follower[0] = action(100, 1, 0, 32);
+    task.follower[1] = action(30, 1, 1, 2);
+    task.follower[2] = action(30, 2, 2, 4);
+    task.follower[3] = action(30, 4, 4, 32);
+    roomy(b"cheaper detour", task, &[]);
+    short_plan(b"cheaper detour, 2 places", task, &[]);
+    task.follower[3] = action(40, 4, 4, 32);
+    roomy(b"as dear a detour", task, &[]);
+    task.follower[3] = action(41, 4, 4, 32);
+    roomy(b"dearer detour", task, &[]);
+    task.follower[0] = action(100, 16, 0, 32);
+    roomy(b"only the detour", task, &[]);
+    task.follower[3] = action(41, 20, 4, 32);
+    roomy(b"no way", task, &[]);
+}
+
+// A cheaper way to a state that was met before.
+fn met_before() {
+    let mut task = bare();
+    task.follower_count = 4;
+    task.follower[0] = action(9, 1, 1, 2);
+    task.follower[1] = action(2, 1, 1, 4);
+    task.follower[2] = action(3, 4, 4, 2);
+    task.follower[3] = action(1, 2, 2, 32);
+    roomy(b"met before", task, &[]);
+}
+
+// Actions that cost nothing and lead round in circles.
+fn loops() {
+    let mut task = bare();
+    task.follower_count = 5;
+    task.follower[0] = action(0, 1, 1, 2);
+    task.follower[1] = action(0, 2, 2, 1);
+    task.follower[2] = action(0, 2, 2, 4);
+    task.follower[3] = action(0, 4, 4, 1);
+    task.follower[4] = action(0, 4, 0, 32);
+    roomy(b"free loops", task, &[]);
+    task.follower[4] = action(0, 0, 0, 0);
+    roomy(b"free loops, no way", task, &[]);
+}
+
+// Ways of one cost; of one cost and as many steps.
+fn ties() {
+    let mut task = bare();
+    task.follower_count = 5;
+    task.follower[0] = action(5, 1, 1, 2);
+    task.follower[1] = action(5, 2, 2, 32);
+    task.follower[2] = action(10, 1, 1, 32);
+    task.follower[3] = action(5, 1, 1, 4);
+    task.follower[4] = action(5, 4, 4, 32);
+    roomy(b"fewer steps", task, &[]);
+    task.follower[2] = action(11, 1, 1, 32);
+    roomy(b"smaller first step", task, &[]);
+    task.follower[0] = action(5, 1, 1, 4);
+    task.follower[1] = action(5, 4, 4, 48);
+    task.follower[3] = action(5, 1, 1, 2);
+    task.follower[4] = action(5, 2, 2, 32);
+    roomy(b"smaller first step, other end state", task, &[]);
+    task.follower[4] = action(5, 4, 4, 32);
+    roomy(b"smaller last step", task, &[]);
+}
+
+// A counter of 8 bits that goes down: facts 9 to 16 are its bits, facts 1 to 8 say that a bit is not set. Its one plan has 255 steps.
+fn counter() -> Task {
+    let mut task = bare();
+    task.facts = 16;
+    task.initial = 65280;
+    task.goal = 255;
+    task.follower_count = 8;
+    task.follower[0] = action(10_000, 256, 256, 1);
+    task.follower[1] = action(10_000, 513, 513, 258);
+    task.follower[2] = action(10_000, 1027, 1027, 772);
+    task.follower[3] = action(10_000, 2055, 2055, 1800);
+    task.follower[4] = action(10_000, 4111, 4111, 3856);
+    task.follower[5] = action(10_000, 8223, 8223, 7968);
+    task.follower[6] = action(10_000, 16447, 16447, 16192);
+    task.follower[7] = action(10_000, 32895, 32895, 32640);
+    task
+}
+
+// As many places as the counter has states, and as its plan has steps.
+fn counted(label: &[u8], task: Task) {
+    let mut states = [9u64; 256];
+    let mut keys = [8u64; 256];
+    let mut links = [7usize; 256];
+    let mut tree = [6usize; 256];
+    let mut marks = [2u8; 256];
+    let mut plan = [99u8; 255];
+    let answered = best_response(
+        task,
+        &[],
+        &mut states,
+        &mut keys,
+        &mut links,
+        &mut tree,
+        &mut marks,
+        &mut plan,
+    );
+    print(label);
+    print(b":");
+    print_answered(answered);
+    print(b"\n");
+}
+
+fn one_state_more(label: &[u8], task: Task) {
+    let mut states = [9u64; 256];
+    let mut keys = [8u64; 256];
+    let mut links = [7usize; 255];
+    let mut tree = [6usize; 256];
+    let mut marks = [2u8; 256];
+    let mut plan = [99u8; 255];
+    let answered = best_response(
+        task,
+        &[],
+        &mut states,
+        &mut keys,
+        &mut links,
+        &mut tree,
+        &mut marks,
+        &mut plan,
+    );
+    print(label);
+    print(b":");
+    print_answered(answered);
+    print(b"\n");
+}
+
+fn one_step_more(label: &[u8], task: Task) {
+    let mut states = [9u64; 256];
+    let mut keys = [8u64; 256];
+    let mut links = [7usize; 256];
+    let mut tree = [6usize; 256];
+    let mut marks = [2u8; 256];
+    let mut plan = [99u8; 254];
+    let answered = best_response(
+        task,
+        &[],
+        &mut states,
+        &mut keys,
+        &mut links,
+        &mut tree,
+        &mut marks,
+        &mut plan,
+    );
+    print(label);
+    print(b":");
+    print_answered(answered);
+    print(b"\n");
+}
+
+fn long_way() {
+    let task = counter();
+    counted(b"255 steps", task);
+    one_state_more(b"255 steps, 255 places", task);
+    one_step_more(b"255 steps, plan of 254", task);
+}
+
+fn main() {
+    floor();
+    refusals();
+    detour();
+    met_before();
+    loops();
+    ties();
+    long_way();
+}
