@@ -1,0 +1,7 @@
+-- What the front call promises; `Laws` has what is proved about it.
+pub mod Fronted
+pub mod Numbers
+pub mod Writing
+pub mod Choosing
+pub mod Listing
+pub mod Laws

@@ -1,0 +1,13 @@
+// The Pareto front of a task, in a lent slice of entries and a lent slice of plan numbers.
+mod choosing;
+mod listing;
+mod numbers;
+mod writing;
+
+use strips::Refusal;
+
+// The number of entries, or the first question that gets no.
+pub enum Fronted {
+    Lines(usize),
+    Refused(Refusal),
+}

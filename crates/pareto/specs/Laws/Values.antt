@@ -1,0 +1,90 @@
+-- The order of answers.
+use mathlib.Core.Path.{_≡_, refl, ap}
+use mathlib.Core.Logic.{_⊎_, inl, inr}
+use Prim.Native.Nat.{ℕ, _≤_, _<_}
+use native.Mathlib.Decide.{ℕ-discrete}
+use native.Mathlib.Omega.{arith}
+use Rattle.strips.specs.Answer.{Value, minutes, none}
+use Rattle.strips.specs.Laws.Order.{trichotomy}
+use Rattle.pareto.specs.Front.{UpTo, number-up-to, up-to-none, Below, number-below, below-none}
+use Rattle.pareto.specs.Selection.{Exceeds}
+
+pub up-to-refl : (x : Value) → UpTo x x
+up-to-refl (minutes a) = let h : a ≤ a = omega arith in number-up-to h
+up-to-refl none = up-to-none
+
+pub up-to-trans : {x y z : Value} → UpTo x y → UpTo y z → UpTo x z
+up-to-trans (number-up-to {a = a} h) (number-up-to {b = b} k) = let l : a ≤ b = omega arith in number-up-to l
+up-to-trans (number-up-to h) up-to-none = up-to-none
+up-to-trans up-to-none up-to-none = up-to-none
+
+pub up-to-antisym : {x y : Value} → UpTo x y → UpTo y x → x ≡ y
+up-to-antisym (number-up-to h) (number-up-to k) = ap minutes (omega arith)
+up-to-antisym up-to-none up-to-none = refl
+
+pub below-up-to : {x y : Value} → Below x y → UpTo x y
+below-up-to (number-below {a = a} {b = b} h) = let l : a ≤ b = omega arith in number-up-to l
+below-up-to below-none = up-to-none
+
+-- none is below nothing
+pub none-below : {y : Value} → Below none y → ⊥
+none-below h = of h refl
+  where
+    of : {x y : Value} → Below x y → x ≡ none → ⊥
+    of (number-below h) e = let z : _≡_ {A = ℕ} 0 1 = cc in omega arith
+    of below-none e = let z : _≡_ {A = ℕ} 0 1 = cc in omega arith
+
+pub number-less : {a b : ℕ} → Below (minutes a) (minutes b) → a < b
+number-less {a} {b} h = of h refl refl
+  where
+    of : {x y : Value} → Below x y → x ≡ minutes a → y ≡ minutes b → a < b
+    of (number-below {a = c} {b = d} k) e f = let l : c ≡ a = cc in let m : d ≡ b = cc in omega arith
+    of below-none e f = absurd (let z : _≡_ {A = ℕ} 0 1 = cc in omega arith)
+
+pub below-trans : {x y z : Value} → Below x y → Below y z → Below x z
+below-trans (number-below {a = a} h) (number-below {b = b} k) = let l : a < b = omega arith in number-below l
+below-trans (number-below h) below-none = below-none
+below-trans below-none k = absurd (none-below k)
+
+-- strictly below is not at least
+pub below-not : {x y : Value} → Below x y → UpTo y x → ⊥
+below-not (number-below h) (number-up-to k) = omega arith
+below-not below-none h = of h refl
+  where
+    of : {x : Value} {a : ℕ} → UpTo none x → x ≡ minutes a → ⊥
+    of up-to-none e = let z : _≡_ {A = ℕ} 0 1 = cc in omega arith
+
+pub below-irrefl : {x : Value} → Below x x → ⊥
+below-irrefl {x} h = below-not h (up-to-refl x)
+
+-- one of three
+pub values-total : (x y : Value) → Below x y ⊎ (x ≡ y) ⊎ Below y x
+values-total (minutes a) (minutes b) = of (trichotomy a b)
+  where
+    of : (a < b) ⊎ (a ≡ b) ⊎ (b < a) → Below (minutes a) (minutes b) ⊎ (minutes a ≡ minutes b) ⊎ Below (minutes b) (minutes a)
+    of (inl h) = inl (number-below h)
+    of (inr (inl e)) = inr (inl (ap minutes e))
+    of (inr (inr h)) = inr (inr (number-below h))
+values-total (minutes a) none = inl below-none
+values-total none (minutes b) = inr (inr below-none)
+values-total none none = inr (inl refl)
+
+unfoldable pub below? : (x y : Value) → Dec (Below x y)
+below? x y = of (values-total x y)
+  where
+    of : Below x y ⊎ (x ≡ y) ⊎ Below y x → Dec (Below x y)
+    of (inl h) = yes h
+    of (inr (inl e)) = no (λ h. below-irrefl (rw e at h))
+    of (inr (inr h)) = no (λ k. below-irrefl (below-trans h k))
+
+unfoldable pub exceeds? : (A : ℕ → Value) (n b i : ℕ) → Dec (Exceeds A n b i)
+exceeds? A n b i = of (ℕ-discrete b n) (below? (A b) (A i))
+  where
+    of : Dec (b ≡ n) → Dec (Below (A b) (A i)) → Dec (Exceeds A n b i)
+    of (yes e) d = yes (inl e)
+    of (no e) (yes h) = yes (inr h)
+    of (no e) (no h) = no (λ x. neither x)
+      where
+        neither : Exceeds A n b i → ⊥
+        neither (inl z) = e z
+        neither (inr z) = h z

@@ -1,0 +1,52 @@
+// The lent slice of entries, filled from rows of numbers.
+ghost use mathlib.Core.Path.{_≡_};
+ghost use Prim.Native.Nat.{_<_, _≤_};
+ghost use lib.ListN.{length};
+ghost use Rattle.pareto.specs.Entries.{answerOf, entryOf, entryAt, filled};
+use crate::Entry;
+use strips::Answer;
+use strips::Minutes;
+use strips::Price;
+
+// The answer of a mark and a number of minutes: none where the mark is 0.
+fn answer_of(mark: u32, minutes: u32) -> Answer
+    ensures { λ r. ⌜ r ≡ answerOf mark minutes ⌝ }
+{
+    if mark == 0 {
+        Answer::None
+    } else {
+        Answer::Cost(Minutes(minutes))
+    }
+}
+
+fn entry_of(row: [u32; 32]) -> Entry
+    ensures { λ r. ⌜ r ≡ entryOf row ⌝ }
+{
+    let answer = answer_of(row[1], row[2]);
+    Entry {
+        price: Price(row[0]),
+        answer,
+        leader_steps: row[3],
+        follower_steps: row[4],
+    }
+}
+
+pub fn entry_at(rows: &[[u32; 32]], i: usize) -> Entry
+    requires { ⌜ i < length (now rows) ⌝ }
+    ensures { λ r. ⌜ r ≡ entryAt (now (rows .entry)) i ⌝ }
+{
+    let row = rows[i];
+    entry_of(row)
+}
+
+pub fn store_entries(entries: &mut [Entry], rows: &[[u32; 32]], n: usize)
+    requires { ⌜ (n ≤ length (now entries)) × (n ≤ length (now rows)) ⌝ }
+    ensures { λ _. ⌜ now (entries .exit) ≡ filled (now (entries .entry)) (now (rows .entry)) n ⌝ }
+{
+    let mut i = 0;
+    while i < n {
+        let e = entry_at(rows, i);
+        entries[i] = e;
+        i += 1;
+    }
+}

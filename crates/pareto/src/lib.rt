@@ -1,0 +1,18 @@
+// What the front of a task needs: the selection of its lines among the rows of a table, and the lent slice of entries.
+// What the front is stands in specs/Front.antt.
+mod entries;
+mod selection;
+
+pub use entries::entry_at;
+pub use entries::store_entries;
+pub use selection::select;
+use strips::Answer;
+use strips::Price;
+
+// A line of the front: what its leader plan costs, the answer of the state that it ends in, and the lengths of its plans.
+pub struct Entry {
+    pub price: Price,
+    pub answer: Answer,
+    pub leader_steps: u32,
+    pub follower_steps: u32,
+}

@@ -1,0 +1,39 @@
+-- Every example of the table passes its test, and so what it claims is so.
+use mathlib.Core.Path.{_≡_, refl}
+use mathlib.Core.Bool.{true}
+use mathlib.Core.List.{List·Memᴰ}
+use mathlib.Core.Logic.{Dec·and}
+use native.Mathlib.Decide.{ℕ-discrete, decLe, decLt}
+use borrow.Author.Tests.{eqb-true}
+use lib.Dec.{eqb}
+use Rattle.strips.specs.Decision.{ask, says}
+use Rattle.strips.specs.State.{holds?, after}
+use Rattle.strips.specs.Task.{leaderActions, followerActions}
+use Rattle.strips.specs.Plan.{known?, cost}
+use Rattle.strips.specs.Replay.{replayed, passing, endState}
+use Rattle.strips.specs.Laws.Validity.{equivalent?, valid?, places?, unused?, proper?, within?, when?, all-below?}
+use Rattle.task_format.specs.Text.{split, begins}
+use Rattle.task_format.specs.Value.{decimalFrom, members, setOf, content, InForm, InRange, Rising}
+use Rattle.task_format.specs.Lines.{keyOf, kindOf, stored}
+use Rattle.task_format.specs.Parse.{parse, follow, judged, fault, zeros}
+use Rattle.task_format.specs.Laws.Deciding.{same?, le?, true?, through?, either?, empty?, all?, between?, number?, risesFrom?, rises?, inForm?, inRange?, rising?}
+use Rattle.worked.specs.Check.{both, either, every, some, everyUpTo, when, sameList, sameValue, upTo, below, holds, notLater, atMost, runsTo, serves, closed, tabled, responds, answered, rises, stands, covers, attackNodes, frontIs, among, not, distinct, reachIs}
+use Rattle.worked.specs.Laws.Tests.{both-first, both-second, every-each}
+use Rattle.worked.specs.Laws.Sound.{front-is, reach-is}
+use Rattle.worked.specs.Examples.{Example, front, reach, replay, refusal, Claims, test, act, hall, worked, node, attack, line, attacks, facts, start, examples}
+
+all-pass : every test examples ≡ true
+unfolding every test examples both either some everyUpTo when sameList sameValue upTo below holds notLater atMost runsTo serves closed tabled responds answered rises stands covers attackNodes frontIs among not distinct reachIs act hall worked node attack line attacks facts start parse follow judged fault zeros content decimalFrom members setOf InForm InRange Rising keyOf kindOf stored split begins number? through? either? empty? all? between? risesFrom? rises? inForm? inRange? rising? same? le? true? replayed passing endState ask says leaderActions followerActions holds? after cost ℕ-discrete decLe decLt valid? places? unused? proper? within? when? all-below? Dec·and equivalent? known?
+all-pass = refl
+
+-- what passes its test is so
+sound : (e : Example) → test e ≡ true → Claims e
+unfolding test
+sound (front t attacks lines) e = front-is t attacks lines e
+sound (reach t attacks states) e = reach-is t attacks states e
+sound (replay t p q number place) e = (eqb-true _ _ (both-first _ _ e), eqb-true _ _ (both-second (eqb (replayed t p q .number) number) _ e))
+sound (refusal text number place) e = (eqb-true _ _ (both-first _ _ e), eqb-true _ _ (both-second (eqb (parse text .number) number) _ e))
+
+-- every example of the table is so
+pub examples-hold : (e : Example) → List·Memᴰ e examples → Claims e
+examples-hold e m = sound e (every-each test examples all-pass e m)
