@@ -6,6 +6,7 @@ ghost use lib.ListN.{length, getD, take, drop};
 ghost use Rattle.search.specs.Limits.{maxPlaces};
 ghost use Rattle.front.specs.Numbers.{answerMinutes, answerSteps, lineSteps, totalSteps, lineRow, Fitting};
 use search::KEY_BASE;
+use strips::MAX_FOLLOWER;
 
 // The minutes of an answer, by its mark and its key; 0 where it is none.
 fn answer_minutes(mark: u8, key: u64) -> u64
@@ -57,7 +58,7 @@ pub fn total_steps(
 }
 
 // The numbers of an entry.
-pub fn line_row(keys: &[u64], values: &[u64], reached: &[u8], i: usize) -> [u32; 32]
+pub fn line_row(keys: &[u64], values: &[u64], reached: &[u8], i: usize) -> [u32; MAX_FOLLOWER]
     requires { ⌜ Fitting (now keys) (now values) (now reached) i ⌝ }
     ensures { λ r. ⌜ r ≡ lineRow (now (keys .entry)) (now (values .entry)) (now (reached .entry)) i ⌝ }
 {
@@ -66,7 +67,7 @@ pub fn line_row(keys: &[u64], values: &[u64], reached: &[u8], i: usize) -> [u32;
     let mark = reached[i];
     let minutes = answer_minutes(mark, value);
     let steps = answer_steps(mark, value);
-    let mut row = [0u32; 32];
+    let mut row = [0u32; MAX_FOLLOWER];
     row[0] = (key / KEY_BASE) as u32;
     row[1] = mark as u32;
     row[2] = minutes as u32;
@@ -82,7 +83,7 @@ pub fn fill_rows(
     reached: &[u8],
     picked: &[usize],
     count: usize,
-    rows: &mut [[u32; 32]],
+    rows: &mut [[u32; MAX_FOLLOWER]],
 )
     requires { ⌜ (count ≤ length (now picked)) × (count ≤ length (now rows)) × ((k : ℕ) → k < count → Fitting (now keys) (now values) (now reached) (getD (now picked) k 0)) ⌝ }
     ensures { λ _. ⌜ now (rows .exit) ≡ map (lineRow (now (keys .entry)) (now (values .entry)) (now (reached .entry))) (take count (now (picked .entry))) ++ drop count (now (rows .entry)) ⌝ }

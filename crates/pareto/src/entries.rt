@@ -5,6 +5,7 @@ ghost use lib.ListN.{length};
 ghost use Rattle.pareto.specs.Entries.{answerOf, entryOf, entryAt, filled};
 use crate::Entry;
 use strips::Answer;
+use strips::MAX_FOLLOWER;
 use strips::Minutes;
 use strips::Price;
 
@@ -19,7 +20,7 @@ fn answer_of(mark: u32, minutes: u32) -> Answer
     }
 }
 
-fn entry_of(row: [u32; 32]) -> Entry
+fn entry_of(row: [u32; MAX_FOLLOWER]) -> Entry
     ensures { λ r. ⌜ r ≡ entryOf row ⌝ }
 {
     let answer = answer_of(row[1], row[2]);
@@ -31,7 +32,7 @@ fn entry_of(row: [u32; 32]) -> Entry
     }
 }
 
-pub fn entry_at(rows: &[[u32; 32]], i: usize) -> Entry
+pub fn entry_at(rows: &[[u32; MAX_FOLLOWER]], i: usize) -> Entry
     requires { ⌜ i < length (now rows) ⌝ }
     ensures { λ r. ⌜ r ≡ entryAt (now (rows .entry)) i ⌝ }
 {
@@ -39,7 +40,7 @@ pub fn entry_at(rows: &[[u32; 32]], i: usize) -> Entry
     entry_of(row)
 }
 
-pub fn store_entries(entries: &mut [Entry], rows: &[[u32; 32]], n: usize)
+pub fn store_entries(entries: &mut [Entry], rows: &[[u32; MAX_FOLLOWER]], n: usize)
     requires { ⌜ (n ≤ length (now entries)) × (n ≤ length (now rows)) ⌝ }
     ensures { λ _. ⌜ now (entries .exit) ≡ filled (now (entries .entry)) (now (rows .entry)) n ⌝ }
 {

@@ -27,7 +27,7 @@ returns-2 : tie.Need-returns-2
 returns-2 c = λ acts P l ki kj. prefers-no acts P _ (by-price (omega (arith, ki .key, ki .short, kj .key, kj .short, c .if2 .taken)))
 
 exceeds-requires : tie.Need-exceeds-requires
-exceeds-requires c κs = let p = c .before .before .before .before .before .before .before .before .pre in (p .1 .size-f, p .1 .size-r, omega (arith, p .3), p .2)
+exceeds-requires c κs = let p = c .before .before .before .before .before .before .before .before .pre in (p .1 .size-f, p .1 .size-r, omega (arith, p .2, p .3), omega (arith, p .2, p .3))
 
 returns-3 : tie.Need-returns-3
 returns-3 c =
@@ -36,7 +36,7 @@ returns-3 c =
     λ acts P l ki kj. prefers-yes acts P _ (by-answer (omega (arith, ki .key, ki .short, kj .key, kj .short, c .before .before .before .if1 .left, c .before .before .if2 .left)) higher)
 
 exceeds-requires-2 : tie.Need-exceeds-requires-2
-exceeds-requires-2 c κs = let p = c .before .before .before .before .before .before .before .before .before .before .pre in (p .1 .size-f, p .1 .size-r, omega (arith, p .2), p .3)
+exceeds-requires-2 c κs = let p = c .before .before .before .before .before .before .before .before .before .before .pre in (p .1 .size-f, p .1 .size-r, omega (arith, p .2, p .3), omega (arith, p .2, p .3))
 
 returns-4 : tie.Need-returns-4
 returns-4 c =
