@@ -1,7 +1,8 @@
 -- Entries, and the rows of numbers that they are made from: price, mark, minutes, and the lengths of the two plans.
 use mathlib.Core.List.{List, []}
 use Prim.Native.Nat.{ℕ, zero, suc}
-use lib.ListN.{getD, set}
+use lib.ListN.{getD, set, replicate}
+use Rattle.strips.specs.Limits.{maxFollower}
 use Rattle.strips.specs.declared.Answer.{Answer}
 use Rattle.strips.specs.declared.Answer.the-variants.{Cost, None}
 use Rattle.pareto.specs.declared.Entry.{Entry}
@@ -21,3 +22,8 @@ entryAt rows i = entryOf (getD rows i [])
 unfoldable pub filled : List Entry → List (List ℕ) → ℕ → List Entry
 filled es rows zero = es
 filled es rows (suc n) = set (filled es rows n) n (entryAt rows n)
+
+-- the first n rows are zero, and the others as they were
+unfoldable pub emptied : List (List ℕ) → ℕ → List (List ℕ)
+emptied rows zero = rows
+emptied rows (suc n) = set (emptied rows n) n (replicate maxFollower 0)

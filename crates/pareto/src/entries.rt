@@ -1,8 +1,9 @@
-// The lent slice of entries, filled from rows of numbers.
+// The lent slice of entries, filled from rows of numbers, which are cleared.
 ghost use mathlib.Core.Path.{_≡_};
 ghost use Prim.Native.Nat.{_<_, _≤_};
-ghost use lib.ListN.{length};
-ghost use Rattle.pareto.specs.Entries.{answerOf, entryOf, entryAt, filled};
+ghost use lib.ListN.{length, set, replicate};
+ghost use Rattle.strips.specs.Limits.{maxFollower};
+ghost use Rattle.pareto.specs.Entries.{answerOf, entryOf, entryAt, filled, emptied};
 use crate::Entry;
 use strips::Answer;
 use strips::MAX_FOLLOWER;
@@ -32,21 +33,24 @@ fn entry_of(row: [u32; MAX_FOLLOWER]) -> Entry
     }
 }
 
-pub fn entry_at(rows: &[[u32; MAX_FOLLOWER]], i: usize) -> Entry
+// The entry of a row, which is then cleared.
+fn take_entry(rows: &mut [[u32; MAX_FOLLOWER]], i: usize) -> Entry
     requires { ⌜ i < length (now rows) ⌝ }
-    ensures { λ r. ⌜ r ≡ entryAt (now (rows .entry)) i ⌝ }
+    ensures { λ r. ⌜ (r ≡ entryAt (now (rows .entry)) i) × (now (rows .exit) ≡ set (now (rows .entry)) i (replicate maxFollower 0)) ⌝ }
 {
     let row = rows[i];
+    rows[i] = [0; MAX_FOLLOWER];
     entry_of(row)
 }
 
-pub fn store_entries(entries: &mut [Entry], rows: &[[u32; MAX_FOLLOWER]], n: usize)
+// Stores the entries of the first n rows, and clears these rows.
+pub fn take_entries<'e, 'b>(entries: &'e mut [Entry], rows: &'b mut [[u32; MAX_FOLLOWER]], n: usize)
     requires { ⌜ (n ≤ length (now entries)) × (n ≤ length (now rows)) ⌝ }
-    ensures { λ _. ⌜ now (entries .exit) ≡ filled (now (entries .entry)) (now (rows .entry)) n ⌝ }
+    ensures { λ _. ⌜ (now (entries .exit) ≡ filled (now (entries .entry)) (now (rows .entry)) n) × (now (rows .exit) ≡ emptied (now (rows .entry)) n) ⌝ }
 {
     let mut i = 0;
     while i < n {
-        let e = entry_at(rows, i);
+        let e = take_entry(rows, i);
         entries[i] = e;
         i += 1;
     }

@@ -3,8 +3,7 @@
 mod entries;
 mod selection;
 
-pub use entries::entry_at;
-pub use entries::store_entries;
+pub use entries::take_entries;
 pub use selection::select;
 use strips::Answer;
 use strips::Price;
