@@ -3,7 +3,7 @@ use mathlib.Core.List.{List, [], _∷_}
 use Prim.Native.Nat.{ℕ, zero, suc, _+_, _/_, _%_, _≤_, _<_}
 use lib.ListN.{length, getD, replicate}
 use Rattle.strips.specs.Limits.{maxNumber}
-use Rattle.search.specs.Limits.{keyBase}
+use Rattle.search.specs.Limits.{maxPlaces, keyBase}
 
 -- the minutes and the steps of an answer, by its mark and its key; 0 where it is none
 unfoldable pub answerMinutes : ℕ → ℕ → ℕ
@@ -27,10 +27,12 @@ unfoldable pub lineRow : List ℕ → List ℕ → List ℕ → ℕ → List ℕ
 lineRow K F R i =
     getD K i 0 / keyBase ∷ getD R i 0 ∷ answerMinutes (getD R i 0) (getD F i 0) ∷ getD K i 0 % keyBase ∷ answerSteps (getD R i 0) (getD F i 0) ∷ replicate 27 0
 
--- row i has a place in each column, and its costs fit
+-- row i has a place in each column, its plans are short enough and its costs fit
 pub record Fitting (K F R : List ℕ) (i : ℕ) : Type 0 where
   pub in-k : i < length K
   pub in-f : i < length F
   pub in-r : i < length R
+  pub leader-short : getD K i 0 % keyBase ≤ maxPlaces
+  pub follower-short : answerSteps (getD R i 0) (getD F i 0) ≤ maxPlaces
   pub price : getD K i 0 / keyBase ≤ maxNumber
   pub minutes : answerMinutes (getD R i 0) (getD F i 0) ≤ maxNumber

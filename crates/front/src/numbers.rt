@@ -18,7 +18,7 @@ fn answer_minutes(mark: u8, key: u64) -> u64
     key / KEY_BASE
 }
 
-fn answer_steps(mark: u8, key: u64) -> u64
+pub fn answer_steps(mark: u8, key: u64) -> u64
     ensures { λ r. ⌜ r ≡ answerSteps mark key ⌝ }
 {
     if mark == 0 {

@@ -8,7 +8,7 @@ ghost use Rattle.search.specs.Response.{Response};
 ghost use Rattle.backward.specs.Values.{Responses};
 ghost use Rattle.pareto.specs.Selection.{answers};
 ghost use Rattle.pareto.specs.Lines.{linesOf};
-ghost use Rattle.front.specs.Fronted.{plansFor};
+ghost use Rattle.pareto.specs.Layout.{plansFor};
 ghost use Rattle.front.specs.Numbers.{answerSteps, lineSteps, totalSteps, Fitting};
 ghost use Rattle.front.specs.Writing.{Searched, Kept};
 use crate::numbers::line_steps;
@@ -18,7 +18,7 @@ use search::KEY_BASE;
 use strips::Task;
 
 // Writes the best response of a row to the front of the plan slice; nothing where there is none.
-fn write_response(
+pub fn write_response(
     task: Task,
     states: &[u64],
     values: &[u64],

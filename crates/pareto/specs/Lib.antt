@@ -1,6 +1,7 @@
 -- What the front of a task is; `Laws` has what is proved about it.
 pub mod Front
 pub mod Entries
+pub mod Layout
 pub mod Selection
 pub mod Lines
 pub mod Laws

@@ -57,9 +57,13 @@ pub data Outcome (t : Task) (sizes p plan : List ℕ) : Returned → List ℕ �
   responds : {r : Returned} {plan′ : List ℕ} → Lent sizes → replayed t p [] .number ≡ 0
       → Responded t (endState (leaderActions t) (t .initial) p) (shortest sizes) plan r plan′ → Outcome t sizes p plan r plan′
 
--- what a working slice holds afterwards: what it held, after refusals 8 to 12, and else zeros
-unfoldable pub leftIn : ℕ → List ℕ → List ℕ
-leftIn number places = ask (Dec·and (decLe 8 number) (decLe number 12)) (zeros places) places
+-- what is left of something lent: what it held, after refusals 8 to 12, and else what it is when cleared
+unfoldable pub leftOf : {A : Type 0} → ℕ → A → A → A
+leftOf number held cleared = ask (Dec·and (decLe 8 number) (decLe number 12)) cleared held
+
+-- what a working slice holds afterwards
+abbrev pub leftIn : ℕ → List ℕ → List ℕ
+leftIn number places = leftOf number places (zeros places)
 
 -- the whole promise: the five working slices before and after, the plan slice before and after
 pub record Promised (t : Task) (p S K L T M S′ K′ L′ T′ M′ plan plan′ : List ℕ) (r : Returned) : Type 0 where

@@ -1,8 +1,9 @@
 // The public call: questions 8 to 12 first, and then the answer.
 ghost use Rattle.response.specs.Answered.{returned, Promised};
 use crate::Answered;
-use crate::capacity::capacity;
+use crate::capacity::with_slices;
 use crate::responding::respond;
+use search::MAX_PLACES;
 use strips::Refusal;
 use strips::Replayed;
 use strips::Task;
@@ -22,12 +23,13 @@ pub fn best_response(
     ensures { λ r. ⌜ Promised task (now («leader_plan» .entry)) (now (states .entry)) (now (keys .entry)) (now (links .entry)) (now (tree .entry)) (now (marks .entry))
         (now (states .exit)) (now (keys .exit)) (now (links .exit)) (now (tree .exit)) (now (marks .exit)) (now (plan .entry)) (now (plan .exit)) (returned r) ⌝ }
 {
-    let n = capacity(
+    let n = with_slices(
         states.len(),
         keys.len(),
         links.len(),
         tree.len(),
         marks.len(),
+        MAX_PLACES,
     );
     if n < 1 {
         return Answered::Refused(Refusal::WorkspaceSize);

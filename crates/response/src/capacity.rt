@@ -1,5 +1,6 @@
 // Question 8: the places of the shortest working slice, or 0 where a slice has too few or too many.
-ghost use mathlib.Core.List.{List, [], _∷_};
+// Beside no slices there are as many places as a slice may have.
+ghost use mathlib.Core.List.{List, _∷_};
 ghost use Prim.Native.Nat.{ℕ};
 ghost use Rattle.response.specs.Working.{Capacity};
 use search::MAX_PLACES;
@@ -17,12 +18,20 @@ fn with_slice(n: usize, rest: usize) -> usize
     if n < rest { n } else { rest }
 }
 
-pub fn capacity(states: usize, keys: usize, links: usize, tree: usize, marks: usize) -> usize
-    ensures { λ r. ⌜ Capacity (states ∷ keys ∷ links ∷ tree ∷ marks ∷ []) r ⌝ }
+// Five slices more, beside slices with `rest` places.
+pub fn with_slices(
+    first: usize,
+    second: usize,
+    third: usize,
+    fourth: usize,
+    fifth: usize,
+    rest: usize,
+) -> usize
+    ensures { λ r. ⌜ ((sizes : List ℕ) → Capacity sizes rest → Capacity (first ∷ second ∷ third ∷ fourth ∷ fifth ∷ sizes) r) ⌝ }
 {
-    let one = with_slice(marks, MAX_PLACES);
-    let two = with_slice(tree, one);
-    let three = with_slice(links, two);
-    let four = with_slice(keys, three);
-    with_slice(states, four)
+    let one = with_slice(fifth, rest);
+    let two = with_slice(fourth, one);
+    let three = with_slice(third, two);
+    let four = with_slice(second, three);
+    with_slice(first, four)
 }

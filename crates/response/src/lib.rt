@@ -4,6 +4,8 @@ mod capacity;
 mod responding;
 
 pub use asking::best_response;
+pub use capacity::with_slices;
+pub use responding::wipe;
 use strips::Answer;
 use strips::Refusal;
 

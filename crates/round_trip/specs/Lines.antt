@@ -19,9 +19,9 @@ use Rattle.task_format.specs.Laws.Choice.{either, never}
 use Rattle.task_format.specs.Laws.Fields.{field-holds, modest}
 use Rattle.task_format.specs.Laws.Parse.{judged-yes, judged-no, follow-end, follow-missing, follow-over, follow-key, follow-value}
 use Rattle.task_format.specs.Laws.Text.{key-of}
+use Rattle.task_format.specs.Laws.Decimal.{Without, all-append}
 use Rattle.task_format.specs.declared.Kind.{Kind}
-use Rattle.round_trip.specs.Numbers.{all-append}
-use Rattle.round_trip.specs.Pieces.{Without, split-join, ended, Last, last-of, last-behind}
+use Rattle.round_trip.specs.Pieces.{split-join, ended, Last, last-of, last-behind}
 use Rattle.round_trip.specs.Values.{Fine, value-fine, value-content, fine-value, fine-holds, no-fault, fine, value-plain}
 use Rattle.round_trip.specs.Fields.{found-field, kept-field}
 use Rattle.round_trip.specs.Built.{Built, place, built-stored, due-stored, facts-kept, kind-same, Agree, task-same}

@@ -1,64 +1,22 @@
 -- A number is the digits that say it, and digits say their number.
 use mathlib.Core.Path.{_≡_, refl, sym, ap, _∙_, subst}
 use mathlib.Core.List.{List, [], _∷_, _++_, append-nil, append-assoc}
-use Prim.Native.Nat.{ℕ, zero, suc, _+_, _-_, _*_, _/_, _%_, _^_, _≤_, _<_}
+use Prim.Native.Nat.{ℕ, suc, _+_, _-_, _*_, _/_, _%_, _^_, _≤_, _<_}
 use native.Mathlib.Omega.{arith}
 use native.Mathlib.Nat.{pow-suc, add-zero, pow-le-pow-right, lt-of-lt-of-le}
-use lib.Dec.{ltb, eqb, lit<}
-use lib.ListN.{length, getD, List·getD-append}
-use borrow.Author.Tests.{ltb-true, ltb-false, eqb-true, eqb-false}
+use lib.Dec.{eqb, lit<}
+use lib.ListN.{length}
+use borrow.Author.Tests.{eqb-true, eqb-false}
 use Rattle.task_format.specs.Limits.{maxDigits}
-use Rattle.task_format.specs.Choice.{pick}
 use Rattle.task_format.specs.Text.{zeroDigit}
 use Rattle.task_format.specs.Value.{All, IsDigit, IsNumber, decimalFrom, decimal}
 use Rattle.task_format.specs.Render.{digitsOf, digits}
 use Rattle.task_format.specs.Laws.Choice.{either}
 use Rattle.task_format.specs.Laws.Value.{nil}
-use Rattle.task_format.specs.Laws.Digits.{digits-short, digits-long, shorter, digits-some, digits-few}
-
-pub all-append : (P : ℕ → Type 0) (a b : List ℕ) → All P a → All P b → All P (a ++ b)
-all-append P [] b p q = q
-all-append P (x ∷ a) b p q = (p .0, all-append P a b (p .1) q)
-
-decimal-append : (n : ℕ) (a b : List ℕ) → decimalFrom n (a ++ b) ≡ decimalFrom (decimalFrom n a) b
-unfolding decimalFrom
-decimal-append n [] b = refl
-decimal-append n (x ∷ a) b = decimal-append (n * 10 + (x - zeroDigit)) a b
+use Rattle.task_format.specs.Laws.Digits.{digits-short, digits-long, digits-some, digits-few}
+use Rattle.task_format.specs.Laws.Decimal.{digits-are, fuel}
 
 -- ---- the digits of a number are in form and say it
-
-record Digits (n : ℕ) (v : List ℕ) : Type 0 where
-  all : All IsDigit v
-  says : decimal v ≡ n
-  lead : getD v 0 0 ≡ zeroDigit → n ≡ 0
-
-one-digit : (k n : ℕ) → n < 10 → Digits n (digitsOf (suc k) n)
-unfolding decimalFrom
-one-digit k n l =
-    rw (digits-short (suc k) n (omega arith) l)
-    (record { all = ((omega arith, omega arith), tt); says = omega arith; lead = λ e. omega (arith, e) })
-
-more-digits : (n : ℕ) (v : List ℕ) → 10 ≤ n → 0 < length v → Digits (n / 10) v → Digits n (v ++ ((zeroDigit + n % 10) ∷ []))
-unfolding decimalFrom
-more-digits n v l s d =
-    record {
-      all = all-append IsDigit v _ (d .all) ((omega arith, omega arith), tt);
-      says = decimal-append 0 v _ ∙ omega (arith, d .says);
-      lead = λ e. absurd (let z = d .lead (sym (List·getD-append v _ 0 0 s) ∙ e) in omega (arith, z));
-    }
-
-digits-are : (k n : ℕ) → n < 10 ^ suc k → Digits n (digitsOf (suc k) n)
-digits-are zero n h = one-digit zero n h
-digits-are (suc k) n h =
-    either (ltb n 10)
-    (λ q. one-digit (suc k) n (ltb-true n 10 q))
-    (λ q.
-    let l = ltb-false n 10 q in
-    let e : suc (suc k) - 1 ≡ suc k = omega arith in
-    let b : n / 10 < 10 ^ suc k = subst (λ (j : ℕ). n / 10 < 10 ^ j) e (shorter (suc (suc k)) n l h .below) in
-    let r = digits-are k (n / 10) b in
-    let z = digits-long (suc (suc k)) n (omega arith) l ∙ ap (λ (j : ℕ). digitsOf j (n / 10) ++ ((zeroDigit + n % 10) ∷ [])) e in
-    rw z (more-digits n (digitsOf (suc k) (n / 10)) l (digits-some k (n / 10)) r))
 
 pub digits-number : (n : ℕ) → n < 10 ^ maxDigits → IsNumber (digits n)
 digits-number n h =
@@ -69,17 +27,6 @@ pub digits-say : (n : ℕ) → n < 10 ^ maxDigits → decimal (digits n) ≡ n
 digits-say n h = digits-are 4 n h .says
 
 -- ---- and no other text does
-
--- more room for digits changes nothing
-fuel : (j k n : ℕ) → n < 10 ^ suc j → n < 10 ^ suc k → digitsOf (suc j) n ≡ digitsOf (suc k) n
-unfolding digitsOf
-fuel zero k n a b = let l : n < 10 = a in sym (digits-short (suc k) n (omega arith) l ∙ sym (digits-short 1 n (omega arith) l))
-fuel (suc j) zero n a b = let l : n < 10 = b in digits-short (suc (suc j)) n (omega arith) l ∙ sym (digits-short 1 n (omega arith) l)
-fuel (suc j) (suc k) n a b =
-    let p = pow-suc 10 (suc j) in
-    let q = pow-suc 10 (suc k) in
-    let r = fuel j k (n / 10) (omega (arith, p)) (omega (arith, q)) in
-    ap (λ (d : List ℕ). pick (ltb n 10) ((zeroDigit + n) ∷ []) (d ++ ((zeroDigit + n % 10) ∷ []))) r
 
 -- digits behind those of n, which has no leading zero
 behind-digits : (d n : ℕ) (v : List ℕ) → 1 ≤ n → n < 10 ^ suc d → All IsDigit v → digitsOf (suc d + length v) (decimalFrom n v) ≡ digitsOf (suc d) n ++ v

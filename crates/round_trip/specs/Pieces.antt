@@ -9,13 +9,9 @@ use lib.ListN.{length, length-append}
 use borrow.Author.Tests.{ne-eqb, eqb-true}
 use Rattle.task_format.specs.Choice.{pick}
 use Rattle.task_format.specs.Text.{newline, comma, push, split, lines, parts}
-use Rattle.task_format.specs.Value.{All}
 use Rattle.task_format.specs.Laws.Choice.{by-test, either}
 use Rattle.task_format.specs.Laws.Text.{split-at, split-more, parts-some}
-
--- without the byte c
-abbrev pub Without : ℕ → List ℕ → Type 0
-Without c v = All (λ b. b ≡ c → ⊥) v
+use Rattle.task_format.specs.Laws.Decimal.{Without}
 
 -- ---- what is joined is split
 

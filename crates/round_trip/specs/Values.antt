@@ -9,7 +9,7 @@ use lib.ListN.{length, length-append}
 use Rattle.strips.specs.Limits.{maxFacts}
 use Rattle.task_format.specs.Limits.{maxDigits}
 use Rattle.task_format.specs.Text.{newline, comma, parts}
-use Rattle.task_format.specs.Value.{All, IsDigit, IsNumber, decimal, members, InForm, InRange, Rising, setOf, content, Holds, Modest}
+use Rattle.task_format.specs.Value.{All, IsNumber, decimal, members, InForm, InRange, Rising, setOf, content, Holds, Modest}
 use Rattle.task_format.specs.Render.{digits, factsOf, listed, valueText}
 use Rattle.task_format.specs.Parse.{fault}
 use Rattle.task_format.specs.Laws.Digits.{digits-some}
@@ -18,15 +18,10 @@ use Rattle.task_format.specs.Laws.Parse.{fault-form, fault-range, fault-rising,
 use Rattle.task_format.specs.Laws.Deciding.{inForm?, inRange?, rising?}
 use Rattle.task_format.specs.declared.Kind.{Kind}
 use Rattle.task_format.specs.declared.Kind.the-variants.{Number, FactList}
-use Rattle.round_trip.specs.Numbers.{all-append, digits-number, digits-say, number-digits}
-use Rattle.round_trip.specs.Pieces.{Without, split-join, parts-one, tail, joined, parts-joined}
+use Rattle.task_format.specs.Laws.Decimal.{Without, all-append, digits-without}
+use Rattle.round_trip.specs.Numbers.{digits-number, digits-say, number-digits}
+use Rattle.round_trip.specs.Pieces.{split-join, parts-one, tail, joined, parts-joined}
 use Rattle.round_trip.specs.Sets.{Above, above, in-range, rise, facts-rise, facts-set, set-facts, set-small}
-
--- ---- digits have no comma and no newline
-
-digits-without : (c : ℕ) → c < 48 → (v : List ℕ) → All IsDigit v → Without c v
-digits-without c h [] a = tt
-digits-without c h (b ∷ v) a = ((λ e. omega (arith, e, a .0 .0)), digits-without c h v (a .1))
 
 -- each number has at most five digits
 abbrev Small : List ℕ → Type 0

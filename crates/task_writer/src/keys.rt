@@ -2,19 +2,8 @@
 ghost use Prim.Native.Nat.{_+_, _≤_};
 ghost use lib.ListN.{length};
 ghost use Rattle.task_format.specs.Lines.{keyOf};
-ghost use Rattle.task_writer.specs.Puts.{Puts};
-
-pub fn put_bytes(out: &mut [u8], at: usize, bytes: &[u8]) -> usize
-    requires { ⌜ at + length (now bytes) ≤ length (now out) ⌝ }
-    ensures { λ r. ⌜ Puts (now (bytes .entry)) at (now (out .entry)) (now (out .exit)) r ⌝ }
-{
-    let mut i = 0;
-    while i < bytes.len() {
-        out[at + i] = bytes[i];
-        i += 1;
-    }
-    at + i
-}
+ghost use Rattle.text_output.specs.Puts.{Puts};
+use text_output::put_bytes;
 
 // The key of a line, with its "=".
 pub fn put_key(out: &mut [u8], at: usize, line: usize) -> usize

@@ -6,12 +6,12 @@ mod numbers;
 
 ghost use Rattle.strips.specs.Task.{Valid};
 ghost use Rattle.task_writer.specs.Written.{Wrote, WroteValid};
-use keys::put_bytes;
 use lines::put_lines;
 use strips::Refusal;
 use strips::Task;
 use strips::is_valid;
 use task_format::MAX_TEXT;
+use text_output::put_bytes;
 
 // How many bytes were written, or the question that got no.
 pub enum Written {

@@ -5,16 +5,17 @@ ghost use Rattle.strips.specs.Task.{Valid};
 ghost use Rattle.task_format.specs.Lines.{lastLine};
 ghost use Rattle.task_format.specs.Render.{valueText, render};
 ghost use Rattle.task_format.specs.Value.{Holds, Modest};
-ghost use Rattle.task_writer.specs.Puts.{Puts, endedLine};
+ghost use Rattle.text_output.specs.Puts.{Puts};
+ghost use Rattle.task_writer.specs.Puts.{endedLine};
 use crate::fields::field_of;
 use crate::keys::put_key;
-use crate::numbers::put_digits;
 use crate::numbers::put_list;
 use strips::Task;
 use task_format::Kind;
 use task_format::MAX_DIGITS;
 use task_format::kind_of;
 use task_format::last_line;
+use text_output::put_digits;
 
 fn put_value(out: &mut [u8], at: usize, kind: Kind, x: u64) -> usize
     requires { ⌜ Modest kind × (Holds kind x × (at + length (valueText kind x) ≤ length (now out))) ⌝ }

@@ -25,10 +25,10 @@ use Rattle.pareto.specs.Selection.{answers, Plans, Picks}
 use Rattle.pareto.specs.Lines.{Solved}
 use Rattle.pareto.specs.Laws.Selection.{answer-none, answer-number}
 use Rattle.pareto.specs.Laws.Lines.{front-of, picked-row}
-use Rattle.front.specs.Numbers.{answerMinutes, Fitting}
+use Rattle.front.specs.Numbers.{answerMinutes, answerSteps, Fitting}
 use Rattle.front.specs.Writing.{Kept}
 use Rattle.front.specs.Choosing.{Tabled, Lined}
-use Rattle.front.specs.Laws.Numbers.{minutes-none, minutes-number}
+use Rattle.front.specs.Laws.Numbers.{minutes-none, minutes-number, steps-none, steps-number}
 
 -- the row of the initial state is where the leader's search begins
 module _ {t : Task} {S K L T M F R heads : List ℕ} {lists : List (List ℕ)} {picked : List ℕ} (tabled : Tabled t S K L T M F R heads lists picked) (src : ℕ) (row : Row S (t .initial) src) where
@@ -89,6 +89,13 @@ module _ (t : Task) (S F R : List ℕ) (all : Responses t S F R) where
       of (inl e) = omega (arith, minutes-none (getD R i 0) (getD F i 0) (sym e))
       of (inr m) = omega (arith, minutes-number (getD R i 0) (getD F i 0) (λ e. omega arith), all .marked i h (omega arith) .fits)
 
+  steps-fit : (i : ℕ) → i < length S → answerSteps (getD R i 0) (getD F i 0) ≤ maxPlaces
+  steps-fit i h = of (eq-or-lt-of-le (let least : 0 ≤ getD R i 0 = omega arith in least))
+    where
+      of : (0 ≡ getD R i 0) ⊎ (0 < getD R i 0) → answerSteps (getD R i 0) (getD F i 0) ≤ maxPlaces
+      of (inl e) = omega (arith, steps-none (getD R i 0) (getD F i 0) (sym e))
+      of (inr m) = let found = all .marked i h (omega arith) in omega (arith, steps-number (getD R i 0) (getD F i 0) (λ e. omega arith), found .steps, found .short)
+
   module _ (src : ℕ) (K L M : List ℕ) (P : ℕ → List ℕ) (start : getD S src 0 ≡ t .initial) (table : ReachTable t S) (small : length S ≤ maxPlaces) (led : Done (leaderActions t) S src K L M P) where
     solved : Solved t S src K L M (answers F R) P followerPlans
     solved = record { start = start; covers = λ p s a. table .complete s (reach-leader a); led = led; responses = responds }
@@ -115,6 +122,8 @@ module _ (t : Task) (S F R : List ℕ) (all : Responses t S F R) where
             in-k = omega (arith, row .0);
             in-f = omega (arith, row .0);
             in-r = omega (arith, row .0);
+            leader-short = omega (arith, key, short .0, small);
+            follower-short = steps-fit i (row .0);
             price = omega (arith, key, short .0, short .1, small);
             minutes = minutes-fit i (row .0);
           }

@@ -11,7 +11,7 @@ use Rattle.search.specs.Limits.{keyBase}
 use Rattle.pareto.specs.Selection.{rowAnswer, answers}
 use Rattle.pareto.specs.Lines.{lineOf, linesOf}
 use Rattle.pareto.specs.Entries.{answerOf, entryOf}
-use Rattle.front.specs.Fronted.{answerFor, entryFor, plansFor}
+use Rattle.pareto.specs.Layout.{answerFor, entryFor, plansFor}
 use Rattle.front.specs.Numbers.{answerMinutes, answerSteps, lineSteps, totalSteps, lineRow}
 
 -- the columns tell the cost and the steps of row i's plans
@@ -26,7 +26,7 @@ answer-same zero key = refl
 answer-same (suc m) key = refl
 
 module _ (t : Task) (P W : ℕ → List ℕ) (K F R : List ℕ) where
-  entry-same : (i : ℕ) → Measured t P W K F R i → entryFor (lineOf t (answers F R) P W i) ≡ entryOf (lineRow K F R i)
+  pub entry-same : (i : ℕ) → Measured t P W K F R i → entryFor (lineOf t (answers F R) P W i) ≡ entryOf (lineRow K F R i)
   unfolding entryFor entryOf lineRow
   entry-same i m = rw (m .price, m .leader, m .follower, answer-same (getD R i 0) (getD F i 0)) refl
 

@@ -3,19 +3,22 @@ use mathlib.Core.Path.{_≡_, sym, ap, _∙_}
 use mathlib.Core.List.{List, _++_, map, List·Memᴰ}
 use Prim.Native.Nat.{ℕ, _≤_, _<_}
 use native.Mathlib.Omega.{arith}
-use lib.ListN.{length, getD, take, drop, length-map}
-use lib.Seq.{length-take-le, take-at, getD-take}
+use lib.ListN.{length, getD, take, drop, length-map, length-append}
+use lib.Seq.{length-take-le, take-at, take-append-le, getD-take}
 use Rattle.strips.specs.declared.Task.{Task}
 use Rattle.search.specs.Laws.Rows.{among-mem}
 use Rattle.pareto.specs.Front.{Line}
 use Rattle.pareto.specs.Selection.{answers}
 use Rattle.pareto.specs.Lines.{lineOf, linesOf}
 use Rattle.pareto.specs.Entries.{entryOf}
-use Rattle.front.specs.Fronted.{refused, listed, entryFor, plansFor}
+use Rattle.pareto.specs.Layout.{entryFor, plansFor}
+use Rattle.report_text.specs.Report.{reportText}
+use Rattle.front.specs.Limits.{anyText}
+use Rattle.front.specs.Fronted.{Returned, refused, listed}
 use Rattle.front.specs.Numbers.{totalSteps, lineRow, Fitting}
 use Rattle.front.specs.Writing.{Kept}
 use Rattle.front.specs.Choosing.{Chosen}
-use Rattle.front.specs.Listing.{Drawn, no-entries, no-plans, drawn}
+use Rattle.front.specs.Listing.{Drawn, no-entries, no-plans, no-text, drawn}
 use Rattle.front.specs.Laws.Writing.{response-steps}
 use Rattle.front.specs.Laws.Lines.{Measured, entries-same, plans-long}
 
@@ -59,26 +62,40 @@ module _ {t : Task} {S K L F R picked : List ℕ} {count : ℕ} (chosen : Chosen
   plans-many : length (plansFor theLines) ≡ totalSteps K F R (take count picked)
   plans-many = plans-long t (chosen .leader-plans) (chosen .follower-plans) K F R (take count picked) measured
 
-  module _ (room : ℕ) (plans : List ℕ) where
-    pub drawn-14 : (lists : List (List ℕ)) → room < count → Drawn t room plans (refused 14) plans lists
+  module _ (room most : ℕ) (plans : List ℕ) where
+    pub drawn-14 : (lists : List (List ℕ)) → room < count → Drawn t room most plans (refused 14) plans lists
     drawn-14 lists h = no-entries (chosen .lined .front) (omega (arith, lines-many))
 
-    pub drawn-15 : (lists : List (List ℕ)) → count ≤ room → length plans < totalSteps K F R (take count picked) → Drawn t room plans (refused 15) plans lists
+    pub drawn-15 : (lists : List (List ℕ)) → count ≤ room → length plans < totalSteps K F R (take count picked) → Drawn t room most plans (refused 15) plans lists
     drawn-15 lists h less = no-plans (chosen .lined .front) (omega (arith, lines-many)) (omega (arith, plans-many))
 
-    pub drawn-all : (plans′ : List ℕ) (lists lists′ : List (List ℕ)) → count ≤ room → totalSteps K F R (take count picked) ≤ length plans → count ≤ length lists′
+    pub drawn-16 : (lists : List (List ℕ)) (bytes : ℕ) → count ≤ room → totalSteps K F R (take count picked) ≤ length plans → bytes ≡ length (reportText theLines) → most < bytes → bytes ≤ anyText
+        → Drawn t room most plans (refused 16) plans lists
+    drawn-16 lists bytes h enough e less limit =
+        no-text (chosen .lined .front) (omega (arith, lines-many)) (omega (arith, plans-many)) (omega arith) (omega arith)
+
+    pub drawn-all : (plans′ : List ℕ) (lists lists′ : List (List ℕ)) (bytes : ℕ) → count ≤ room → totalSteps K F R (take count picked) ≤ length plans → bytes ≡ length (reportText theLines) → bytes ≤ most
+        → count ≤ length lists′
         → plans′ ≡ plansFor theLines ++ drop (totalSteps K F R (take count picked)) plans
-        → lists′ ≡ map (lineRow K F R) (take count picked) ++ drop count lists → Drawn t room plans (listed count) plans′ lists′
+        → lists′ ≡ map (lineRow K F R) (take count picked) ++ drop count lists → Drawn t room most plans (listed count) plans′ lists′
     unfolding rows
-    drawn-all plans′ lists lists′ h enough places written filled =
+    drawn-all plans′ lists lists′ bytes h enough e-bytes short places written filled =
         let many : length (map (lineRow K F R) (take count picked)) ≡ count = length-map (take count picked) (lineRow K F R) ∙ long in
         let numbers : take count lists′ ≡ map (lineRow K F R) (take count picked) = ap (take count) filled ∙ take-at (map (lineRow K F R) (take count picked)) (drop count lists) count many in
         let same = entries-same t (chosen .leader-plans) (chosen .follower-plans) K F R (take count picked) measured in
         let e : map entryOf (take (length theLines) lists′) ≡ map entryFor theLines =
         ap (λ (n : ℕ). map entryOf (take n lists′)) lines-many ∙ ap (map entryOf) numbers ∙ sym same in
-        of lines-many plans-many (drawn {lines = theLines} {rows = lists′} (chosen .lined .front) (omega (arith, lines-many)) (omega (arith, plans-many)) (omega (arith, lines-many)) e) written
+        of lines-many plans-many (drawn {lines = theLines} {rows = lists′} (chosen .lined .front) (omega (arith, lines-many)) (omega (arith, plans-many)) (omega arith) (omega (arith, lines-many)) e) written
       where
         of : {n m : ℕ} → length theLines ≡ n → length (plansFor theLines) ≡ m
-            → Drawn t room plans (listed (length theLines)) (plansFor theLines ++ drop (length (plansFor theLines)) plans) lists′
-            → plans′ ≡ plansFor theLines ++ drop m plans → Drawn t room plans (listed n) plans′ lists′
+            → Drawn t room most plans (listed (length theLines)) (plansFor theLines ++ drop (length (plansFor theLines)) plans) lists′
+            → plans′ ≡ plansFor theLines ++ drop m plans → Drawn t room most plans (listed n) plans′ lists′
         of a b d w = rw (w, ← b, ← a) d
+
+-- rows behind those of the entries change nothing
+pub drawn-longer : {t : Task} {room most : ℕ} {plans plans′ : List ℕ} {r : Returned} {rows : List (List ℕ)} → Drawn t room most plans r plans′ rows → (more : List (List ℕ)) → Drawn t room most plans r plans′ (rows ++ more)
+drawn-longer (no-entries f a) more = no-entries f a
+drawn-longer (no-plans f a b) more = no-plans f a b
+drawn-longer (no-text f a b c d) more = no-text f a b c d
+drawn-longer (drawn {lines = ls} {rows = rows} f a b c d e) more =
+    drawn {rows = rows ++ more} f a b c (omega (arith, length-append rows more)) (ap (map entryOf) (take-append-le (length ls) rows more d) ∙ e)

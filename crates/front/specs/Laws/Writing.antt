@@ -16,7 +16,7 @@ use Rattle.search.specs.Laws.Response.{response-unique}
 use Rattle.backward.specs.Values.{Responses}
 use Rattle.pareto.specs.Selection.{answers}
 use Rattle.pareto.specs.Lines.{linesOf}
-use Rattle.front.specs.Fronted.{plansFor}
+use Rattle.pareto.specs.Layout.{plansFor}
 use Rattle.front.specs.Numbers.{answerSteps, lineSteps, totalSteps}
 use Rattle.front.specs.Writing.{Searched, Kept}
 use Rattle.front.specs.Laws.Numbers.{steps-none, steps-number, total-more}
@@ -37,11 +37,11 @@ module _ (t : Task) (S F R : List ℕ) (all : Responses t S F R) (i : ℕ) (row 
           ap length (response-unique x (found .response) .1) ∙ found .steps ∙ sym (steps-number (getD R i 0) (getD F i 0) (λ e. omega arith))
 
 -- the rest of a list, and the list with another rest
-pub rest-of : (a : ℕ) (xs : List ℕ) → midOf a (length xs - a) xs ≡ drop a xs
+pub rest-of : {A : Type 0} (a : ℕ) (xs : List A) → midOf a (length xs - a) xs ≡ drop a xs
 rest-of a xs = take-all (length xs - a) (drop a xs) (omega (arith, length-drop a xs))
 
-put-rest : (a : ℕ) (xs ys : List ℕ) → a ≤ length xs → putMid a (length xs - a) xs ys ≡ take a xs ++ ys
-put-rest a xs ys h = ap (λ (l : List ℕ). take a xs ++ (ys ++ l)) (post-is a (length xs) xs h ∙ drop-length xs) ∙ ap (λ (l : List ℕ). take a xs ++ l) (append-nil ys)
+pub put-rest : {A : Type 0} (a : ℕ) (xs ys : List A) → a ≤ length xs → putMid a (length xs - a) xs ys ≡ take a xs ++ ys
+put-rest {A} a xs ys h = ap (λ (l : List A). take a xs ++ (ys ++ l)) (post-is a (length xs) xs h ∙ drop-length xs) ∙ ap (λ (l : List A). take a xs ++ l) (append-nil ys)
 
 pub drop-same : (w l ys : List ℕ) {a b : ℕ} → a ≡ b → ys ≡ w ++ drop a l → ys ≡ w ++ drop b l
 drop-same w l ys e h = h ∙ ap (λ (n : ℕ). w ++ drop n l) e

@@ -22,7 +22,7 @@ use Rattle.strips.specs.declared.Replayed.the-variants.{Ran, Refused}
 use Rattle.strips.specs.declared.Refusal.{Refusal}
 use Rattle.strips.specs.declared.Refusal.the-variants.{TextTooLong, LineMissing, WrongKey, Malformed, OutOfRange, NotRising, TextGoesOn, WorkspaceSize, InvalidTask, PlanTooLong, UnknownAction, NotApplicable, TooManyStates, TooManyEntries, PlansTooLong, OutputTooLong}
 use Rattle.search.specs.Cleared.{zeros}
-use Rattle.response.specs.Answered.{Returned, refused, Lent, shortest, Responded, too-many, no-room, answers, Outcome, refused-8, refused-9-to-12, responds, leftIn, Promised}
+use Rattle.response.specs.Answered.{Returned, refused, Lent, shortest, Responded, too-many, no-room, answers, Outcome, refused-8, refused-9-to-12, responds, leftOf, Promised}
 use Rattle.response.specs.Working.{Wiped}
 
 -- what holds of both results of a question holds of what is returned
@@ -71,7 +71,7 @@ pub replay-refused : (t : Task) (p : List ℕ) {r : Replayed} {q : Refusal} → 
 unfolding told
 replay-refused t p {r} {q} f g = rw f at g
 
-number-some : (q : Refusal) → 1 ≤ numberOf q
+pub number-some : (q : Refusal) → 1 ≤ numberOf q
 number-some TextTooLong = omega arith
 number-some (LineMissing x) = omega arith
 number-some (WrongKey x) = omega arith
@@ -89,13 +89,13 @@ number-some TooManyEntries = omega arith
 number-some PlansTooLong = omega arith
 number-some OutputTooLong = omega arith
 
-left-held : (n : ℕ) → 8 ≤ n → n ≤ 12 → (S : List ℕ) → S ≡ leftIn n S
-unfolding leftIn
-left-held n h l S = sym (asked-yes (Dec·and (decLe 8 n) (decLe n 12)) (h, l) (zeros S) S)
+pub left-held : {A : Type 0} (n : ℕ) → 8 ≤ n → n ≤ 12 → (held cleared : A) → held ≡ leftOf n held cleared
+unfolding leftOf
+left-held n h l held cleared = sym (asked-yes (Dec·and (decLe 8 n) (decLe n 12)) (h, l) cleared held)
 
-left-clear : (n : ℕ) → ((8 ≤ n) × (n ≤ 12) → ⊥) → (S : List ℕ) → zeros S ≡ leftIn n S
-unfolding leftIn
-left-clear n out S = sym (asked-no (Dec·and (decLe 8 n) (decLe n 12)) out (zeros S) S)
+pub left-clear : {A : Type 0} (n : ℕ) → ((8 ≤ n) × (n ≤ 12) → ⊥) → (held cleared : A) → cleared ≡ leftOf n held cleared
+unfolding leftOf
+left-clear n out held cleared = sym (asked-no (Dec·and (decLe 8 n) (decLe n 12)) out cleared held)
 
 responded-number : {t : Task} {s n : ℕ} {plan plan′ : List ℕ} {r : Returned} → Responded t s n plan r plan′ → (8 ≤ r .number) × (r .number ≤ 12) → ⊥
 responded-number (too-many x) h = omega (arith, h)
@@ -110,11 +110,11 @@ module _ (t : Task) (p S K L T M plan : List ℕ) where
   untouched : (n place : ℕ) → 8 ≤ n → n ≤ 12 → Outcome t sizes p plan (refused n place) plan → Promised t p S K L T M S K L T M plan plan (refused n place)
   untouched n place h l o = record {
     outcome = o;
-    states = left-held n h l S;
-    keys = left-held n h l K;
-    links = left-held n h l L;
-    tree = left-held n h l T;
-    marks = left-held n h l M;
+    states = left-held n h l S (zeros S);
+    keys = left-held n h l K (zeros K);
+    links = left-held n h l L (zeros L);
+    tree = left-held n h l T (zeros T);
+    marks = left-held n h l M (zeros M);
   }
 
   pub promise-8 : (Lent sizes → ⊥) → Promised t p S K L T M S K L T M plan plan (refused 8 0)
@@ -133,9 +133,9 @@ module _ (t : Task) (p S K L T M plan : List ℕ) where
       → Promised t p S K L T M S₁ K₁ L₁ T₁ M₁ plan plan₁ r
   promise-responds {r = r} l z x w = record {
     outcome = responds l z x;
-    states = w .states ∙ left-clear (r .number) (responded-number x) S;
-    keys = w .keys ∙ left-clear (r .number) (responded-number x) K;
-    links = w .links ∙ left-clear (r .number) (responded-number x) L;
-    tree = w .tree ∙ left-clear (r .number) (responded-number x) T;
-    marks = w .marks ∙ left-clear (r .number) (responded-number x) M;
+    states = w .states ∙ left-clear (r .number) (responded-number x) S (zeros S);
+    keys = w .keys ∙ left-clear (r .number) (responded-number x) K (zeros K);
+    links = w .links ∙ left-clear (r .number) (responded-number x) L (zeros L);
+    tree = w .tree ∙ left-clear (r .number) (responded-number x) T (zeros T);
+    marks = w .marks ∙ left-clear (r .number) (responded-number x) M (zeros M);
   }

@@ -1,4 +1,4 @@
--- Runs of bytes joined, members of a list, and lines.
+-- Members of a list, and lines.
 use mathlib.Core.Path.{_≡_, refl, sym, ap, _∙_, subst}
 use mathlib.Core.Bool.{Bool}
 use mathlib.Core.List.{List, [], _∷_, _++_, append-assoc}
@@ -20,11 +20,8 @@ use Rattle.task_format.specs.Value.{Holds, Modest}
 use Rattle.task_format.specs.Laws.Fields.{field-holds, modest}
 use Rattle.task_format.specs.Laws.Lines.{other, field-rest}
 use Rattle.task_format.specs.declared.Kind.{Kind}
+use Rattle.text_output.specs.Laws.Puts.{sets-append}
 use Rattle.task_writer.specs.Puts.{memberText, endedLine}
-
-pub sets-append : (a b l : List ℕ) (i : ℕ) → sets (sets l i a) (i + length a) b ≡ sets l i (a ++ b)
-sets-append [] b l i = rw (add-zero i) refl
-sets-append (x ∷ a) b l i = let e : i + suc (length a) ≡ suc i + length a = omega arith in rw e (sets-append a b (set l i x) (suc i))
 
 -- ---- members of a list
 

@@ -1,12 +1,12 @@
 -- What writing returns and leaves, from what the questions get.
 use mathlib.Core.Path.{_≡_, sym, ap, _∙_, subst}
 use mathlib.Core.List.{List}
-use Prim.Native.Nat.{ℕ, _+_, _≤_, _<_}
-use native.Mathlib.Nat.{zero-add, le-trans}
+use Prim.Native.Nat.{ℕ, _≤_, _<_}
+use native.Mathlib.Nat.{le-trans}
 use native.Mathlib.Omega.{arith}
 use lib.Dec.{lit≤}
 use lib.ListN.{length, take, drop, replicate, length-replicate}
-use lib.Seq.{sets, sets-eq, length-sets, take-append-seam}
+use lib.Seq.{sets, length-sets, take-append-seam}
 use Rattle.strips.specs.Task.{Valid}
 use Rattle.strips.specs.Laws.Decision.{asked-yes, asked-no}
 use Rattle.strips.specs.Laws.Validity.{valid?}
@@ -16,13 +16,11 @@ use Rattle.task_format.specs.Limits.{maxText}
 use Rattle.task_format.specs.Render.{render}
 use Rattle.task_format.specs.Laws.Deciding.{le?}
 use Rattle.task_format.specs.Laws.Size.{render-size}
-use Rattle.task_writer.specs.Puts.{Puts}
-use Rattle.task_writer.specs.Written.{wrote, returned, over, answerValid, outputValid, answer, output, WroteValid, Wrote}
+use Rattle.text_output.specs.Puts.{Puts}
+use Rattle.text_output.specs.Laws.Puts.{put-over}
+use Rattle.task_writer.specs.Written.{wrote, returned, answerValid, outputValid, answer, output, WroteValid, Wrote}
 use Rattle.task_writer.specs.declared.Written.{Written}
 use Rattle.task_writer.specs.declared.Written.the-variants.{Bytes, Refused}
-
-put-over : (text out : List ℕ) → length text ≤ length out → sets out 0 text ≡ over text out
-put-over text out h = let d : 0 + length text ≤ length out = omega arith in sets-eq text out 0 d ∙ rw (zero-add (length text))
 
 -- ---- question 16
 

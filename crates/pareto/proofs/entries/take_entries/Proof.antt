@@ -27,19 +27,19 @@ use contract.Running.{givenOf, tables, tablesOf}
 use types.Kit.{Given, Item, ‵, raw, _⊛_, some, later, ⋆, anyQ, atRet, _$_, _∵_, !, qed, by, move, keep, drop, use1, use2, use3, split, join, pick, rewrite, fsplit, fjoin, feqI, feqL, suffices, frame, await, done}
 use types.Run.{look, init, store, store-raw, forget, stop, hop, fld, from, load, lit, unit-lit, of-opd, bin, and-then, no-more, addr, land, assigns, assigns-last, stays, leaves-loop, returns, enter, exec, alloc1, alloc0, params1, pass1, pass0, free1, free0}
 use types.Part.{agg, whole, sub, look-in}
-use denote.RattleType.{RattleType, owns}
+use denote.RattleType.{owns}
 use denote.Shadow.{pureI}
 use denote.Laws.{Is, shows}
 use denote.Memory.{pointee}
 use denote.Plain.{uint-makes, uint-vals, uint-tells}
-use denote.Builtin.{Array, ArrayOf, u32, usize}
+use denote.Builtin.{usize}
 use denote.Ref.{RefT}
 use denote.Slice.{sliceTy, sliceVal, MutSlice, Room, heres, codedHoleys, at-slice, slice-vals, mut-slice-tells}
 use denote.Lend.{Held}
 use denote.Index.{place-is, elem-out, elem-put, opens-slice, closes-slice}
 use denote.Steps.{owned, peeks, heard, nothing}
 use denote.Struct.Laws as LL
-use denote.Signature.{Slot, plain}
+use denote.Signature.{plain}
 use denote.Triple.Entry.{onEntry}
 use denote.Triple.Spec.{Meets, tripleOf}
 use denote.Triple.Statement.{Contract, Triple}
@@ -52,6 +52,7 @@ use Rattle.strips.specs.Limits.{maxFollower}
 use Rattle.pareto.specs.declared.Entry.{Entry}
 use Rattle.pareto.specs.Entries.{entryAt, filled, emptied}
 use Rattle.pareto.specs.Laws.Entries.{filled-length, emptied-length, emptied-entry}
+use Rattle.pareto.proofs.Rows.{row, rows-slot}
 use Rattle.pareto.proofs.Again.{LentAgain, lends-again, comes-back}
 use Rattle.pareto.proofs.Entry as T
 use Rattle.pareto.proofs.Entry.Laws as T′
@@ -93,15 +94,8 @@ fails false _ = refl
 one-more : (i : ℕ) → i + 1 ≡ suc i
 one-more i = add-suc i zero ∙ ap suc (add-zero i)
 
--- a row of numbers, as a type and as what a slice refers to
-abbrev row : RattleType
-row = Array u32 tt 32
-
-abbrev rows-slot : Slot 2
-rows-slot = ArrayOf (plain (λ _. u32)) (λ _. tt) 32
-
 abbrev stayed : Stays (f.ended .signature .params) (f.ended .kept)
-stayed = (stay-slice (0 ∷ []) tt (plain (λ _. T.the-row)), (stay-slice (1 ∷ []) tt rows-slot, (stay-none (λ _. usize) yes, tt)))
+stayed = (stay-slice (0 ∷ []) tt (plain (λ _. T.the-row)), (stay-slice (1 ∷ []) tt (rows-slot 2), (stay-none (λ _. usize) yes, tt)))
 
 -- the contract that the proof cites
 abbrev Take : {M : Type 1} (𝓤 : URA M) (H : Heap 𝓤) (A : Atoms 𝓤) (mem : Memory → SProp 𝓤) (run : Routine → Fun 𝓤) → Contract 𝓤
@@ -114,10 +108,10 @@ abbrev slice : Ty
 slice = sliceTy (tyRef (named 0) mut (pointee (T.the-row .written)))
 
 abbrev rowsTy : Ty
-rowsTy = sliceTy (tyRef (named 1) mut (tyArray (tyInt w32) 32))
+rowsTy = sliceTy (tyRef (named 1) mut (tyArray (tyInt w32) maxFollower))
 
 abbrev lentTy : Ty
-lentTy = tyRef erased mut (tyArray (tyInt w32) 32)
+lentTy = tyRef erased mut (tyArray (tyInt w32) maxFollower)
 
 module _ {M : Type 1} (𝓤 : URA M) (H : Heap 𝓤) (A : Atoms 𝓤) (W : Given 𝓤 H A) (at-mem : Memory → SProp 𝓤) (run : Routine → Fun 𝓤) (κ κ₁ : Lft) (q q₁ : Share) (b o : ℕ) (γ : GName) (ys : List Entry) (b₁ o₁ : ℕ) (γ₁ : GName) (rs : List (List ℕ)) (n : ℕ)
     (n-fits : n < 2 ^ 64) (room : Room T.the-row (length ys)) (room-r : Room row (length rs)) (few : n ≤ length ys) (enough : n ≤ length rs) where
@@ -317,7 +311,7 @@ module _ {M : Type 1} (𝓤 : URA M) (H : Heap 𝓤) (A : Atoms 𝓤) (W : Given
 take-entries-meets : {M : Type 1} (𝓤 : URA M) (H : Heap 𝓤) (A : Atoms 𝓤) → Given 𝓤 H A → (at-mem : Memory → SProp 𝓤) (run : Routine → Fun 𝓤) (𝓣 : Tables 𝓤 H) → Triple 𝓤 (𝓣 .C #pareto·take-entry) (Take 𝓤 H A at-mem run)
     → Meets 𝓤 H A f.signature (WpFn 𝓤 H (𝓣 .C) (𝓣 .Λ) code.function) (f.spec 𝓤 H A at-mem run)
 take-entries-meets 𝓤 H A W at-mem run 𝓣 known =
-    walk-meets 𝓤 H A f.ended stayed W (goes-slice 𝓤 H A W 2 0 tt (plain (λ _. T.the-row)), (goes-slice 𝓤 H A W 2 1 tt rows-slot, (goes-none 𝓤 H A W 2 (λ _. usize) yes (λ κs x f. refl), tt))) (f.clauses 𝓤 H A at-mem run)
+    walk-meets 𝓤 H A f.ended stayed W (goes-slice 𝓤 H A W 2 0 tt (plain (λ _. T.the-row)), (goes-slice 𝓤 H A W 2 1 tt (rows-slot 2), (goes-none 𝓤 H A W 2 (λ _. usize) yes (λ κs x f. refl), tt))) (f.clauses 𝓤 H A at-mem run)
     (WpFn 𝓤 H (𝓣 .C) (𝓣 .Λ) code.function) (WpFn-mono 𝓤 H (W .laws) 𝓣 code.function) (take-entries-walks 𝓤 H A W at-mem run 𝓣 known)
 
 pub take-entries-spec : {M : Type 1} → stated.statement M

@@ -8,7 +8,8 @@ use denote.Ref.{now}
 use Rattle.task_format.specs.Lines.{lastLine}
 use Rattle.task_format.specs.Render.{linesText, render}
 use Rattle.task_writer.specs.Puts.{endedLine}
-use Rattle.task_writer.specs.Laws.Puts.{sets-append, lines-turn, lines-done, render-is}
+use Rattle.text_output.specs.Laws.Puts.{sets-append}
+use Rattle.task_writer.specs.Laws.Puts.{lines-turn, lines-done, render-is}
 use Rattle.task_writer.proofs.lines.put_lines.Statement.{statement}
 use Rattle.task_writer.proofs.lines.put_lines.Tie as tie
 

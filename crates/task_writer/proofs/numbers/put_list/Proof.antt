@@ -9,7 +9,8 @@ use lib.Seq.{sets}
 use borrow.Author.Tests.{eq-eqb}
 use Rattle.task_format.specs.Render.{factsOf, listed}
 use Rattle.task_writer.specs.Puts.{memberText}
-use Rattle.task_writer.specs.Laws.Puts.{sets-append, list-turn, list-done}
+use Rattle.text_output.specs.Laws.Puts.{sets-append}
+use Rattle.task_writer.specs.Laws.Puts.{list-turn, list-done}
 use Rattle.task_writer.proofs.numbers.put_list.Statement.{statement}
 use Rattle.task_writer.proofs.numbers.put_list.Tie as tie
 

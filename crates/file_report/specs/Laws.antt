@@ -1,0 +1,2 @@
+-- What is proved about the answers.
+pub mod Answer

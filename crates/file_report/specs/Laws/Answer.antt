@@ -1,0 +1,124 @@
+-- The program's answer is determined by the text, and says the front.
+use mathlib.Core.Path.{_≡_, refl, sym, ap, _∙_}
+use mathlib.Core.Logic.{⊎-elim}
+use mathlib.Core.List.{List, _++_, map, List·Memᴰ, List·Memᴰ·not-nil, List·Memᴰ·cases-cons}
+use Prim.Native.Nat.{ℕ, zero, suc, _≤_}
+use native.Mathlib.Omega.{arith}
+use lib.ListN.{length, take, drop, replicate, length-replicate}
+use lib.Seq.{take-at}
+use Rattle.strips.specs.Limits.{maxFollower}
+use Rattle.strips.specs.declared.Refusal.{Refusal}
+use Rattle.strips.specs.declared.Task.{Task}
+use Rattle.task_format.specs.Parse.{Read, accepted, parse}
+use Rattle.round_trip.specs.Theorems.{read-valid}
+use Rattle.task_reader.specs.declared.Verdict.{Verdict}
+use Rattle.task_reader.specs.declared.Verdict.the-variants.{Accepted, Refused}
+use Rattle.task_reader.specs.Reading.{reported}
+use Rattle.search.specs.Limits.{maxPlaces}
+use Rattle.search.specs.Reachable.{Fits}
+use Rattle.response.specs.Answered.{shortest}
+use Rattle.response.specs.Laws.Promise.{number-some}
+use Rattle.pareto.specs.Front.{Line, Front}
+use Rattle.pareto.specs.Layout.{entryFor, plansFor}
+use Rattle.pareto.specs.Laws.Unique.{front-unique}
+use Rattle.pareto.specs.declared.Entry.{Entry}
+use Rattle.report_text.specs.Report.{reportText}
+use Rattle.front.specs.Slices.{Slices, slices, sizes}
+use Rattle.report.specs.declared.Reported.{Reported}
+use Rattle.report.specs.declared.Reported.the-variants.{Written, Refused as Report-Refused}
+use Rattle.report.specs.Reported.{Returned, wrote, returned, Told, too-many, no-entries, no-plans, no-text, tells, Outcome, refused-8, refused-9, tells-front}
+use Rattle.report.specs.Laws.Unique.{outcome-unique}
+use Rattle.file_report.specs.Answer.{places, room, planNumbers, blank, Entered, TaskAnswered, Answered, refuses, reports}
+
+module _ {t : Task} {text : List ℕ} where
+  -- what is written fits
+  told-bytes : {n : ℕ} {entries entries′ : List Entry} {plans plans′ text′ : List ℕ} {r : Returned} → Told t n entries plans text r entries′ plans′ text′ → r .bytes ≤ length text
+  told-bytes (too-many f) = omega arith
+  told-bytes (no-entries f a b) = omega arith
+  told-bytes (no-plans f a b c) = omega arith
+  told-bytes (no-text f a b c d) = omega arith
+  told-bytes (tells f a b c d) = d
+
+  outcome-bytes : {sizes : List ℕ} {entries entries′ : List Entry} {plans plans′ text′ : List ℕ} {r : Returned} → Outcome t sizes entries plans text r entries′ plans′ text′ → r .bytes ≤ length text
+  outcome-bytes (refused-8 f) = omega arith
+  outcome-bytes (refused-9 f g) = omega arith
+  outcome-bytes (tells-front f g d) = told-bytes d
+
+  -- what is written is the report of the front
+  told-report : {n : ℕ} {entries entries′ : List Entry} {plans plans′ text′ : List ℕ} {r : Returned} → Told t n entries plans text r entries′ plans′ text′ → r .number ≡ 0 → {lines : List Line} → Front t lines → take (r .bytes) text′ ≡ reportText lines
+  told-report (too-many f) z g = absurd (omega arith)
+  told-report (no-entries f a b) z g = absurd (omega arith)
+  told-report (no-plans f a b c) z g = absurd (omega arith)
+  told-report (no-text f a b c d) z g = absurd (omega arith)
+  told-report (tells {lines = ls} f a b c d) z g = take-at (reportText ls) (drop (length (reportText ls)) text) (length (reportText ls)) refl ∙ ap reportText (front-unique t a g)
+
+  outcome-report : {sizes : List ℕ} {entries entries′ : List Entry} {plans plans′ text′ : List ℕ} {r : Returned} → Outcome t sizes entries plans text r entries′ plans′ text′ → r .number ≡ 0 → {lines : List Line} → Front t lines → take (r .bytes) text′ ≡ reportText lines
+  outcome-report (refused-8 f) z g = absurd (omega arith)
+  outcome-report (refused-9 f h) z g = absurd (omega arith)
+  outcome-report (tells-front f h d) z g = told-report d z g
+
+answered-bytes : {read : Read} {output output′ : List ℕ} {r : Returned} → Answered read output output′ r → r .bytes ≤ length output
+answered-bytes (refuses f) = omega arith
+answered-bytes (reports z a) = outcome-bytes (a .outcome)
+
+pub written-bytes : {read : Read} {output output′ : List ℕ} {p : Reported} {k b : ℕ} → p ≡ Written k b → Answered read output output′ (returned p) → b ≤ length output
+unfolding returned
+written-bytes e a = omega (arith, answered-bytes a, ap (λ (p : Reported). returned p .bytes) e)
+
+-- after success the output begins with the report of the front
+pub answered-report : {read : Read} {output output′ : List ℕ} {r : Returned} → Answered read output output′ r → r .number ≡ 0 → {lines : List Line} → Front (read .task) lines → take (r .bytes) output′ ≡ reportText lines
+answered-report (refuses f) z g = absurd (omega arith)
+answered-report (reports y a) z g = outcome-report (a .outcome) z g
+
+-- two answers to one text agree in what is returned and in the output
+pub answered-unique : {read : Read} {output x y : List ℕ} {r u : Returned} → Answered read output x r → Answered read output y u → (r ≡ u) × (x ≡ y)
+answered-unique (refuses f) (refuses g) = (refl, refl)
+answered-unique (refuses f) (reports z a) = absurd (omega arith)
+answered-unique (reports z a) (refuses f) = absurd (omega arith)
+answered-unique (reports z a) (reports y b) = let same = outcome-unique (a .outcome) (b .outcome) in (same .0, same .3)
+
+-- question 8 gets yes
+lent-right : (k n : ℕ) → List·Memᴰ n (replicate k places) → (1 ≤ n) × (n ≤ maxPlaces)
+lent-right zero n m = absurd (List·Memᴰ·not-nil m)
+lent-right (suc k) n m = ⊎-elim (λ e. (omega (arith, e), omega (arith, e))) (lent-right k n) (List·Memᴰ·cases-cons m)
+
+-- where reach, lines, plans and text fit what is lent, the output begins with the report of the front
+pub whole-report : (text : List ℕ) {t : Task} {lines : List Line} {output output′ : List ℕ} {r : Returned} → parse text ≡ accepted t → Fits t places → Front t lines → length lines ≤ room
+    → length (plansFor lines) ≤ planNumbers → length (reportText lines) ≤ length output → Answered (parse text) output output′ r → (r .number ≡ 0) × (take (r .bytes) output′ ≡ reportText lines)
+unfolding shortest
+whole-report text {t} {lines} {output} {output′} {r} said fits front few short bytes a =
+    let answered : Answered (accepted t) output output′ r = rw said at a in
+    let entries : length lines ≤ length (replicate room blank) = omega (arith, length-replicate room blank) in
+    let numbers : List ℕ = replicate planNumbers 0 in
+    let plans : length (plansFor lines) ≤ length numbers = omega (arith, length-replicate {A = ℕ} planNumbers 0) in
+    let wanted : Answered (accepted t) output (reportText lines ++ drop (length (reportText lines)) output) (wrote (length lines) (length (reportText lines))) =
+    reports refl (record {
+      entries = map entryFor lines ++ drop (length lines) (replicate room blank);
+      plans = plansFor lines ++ drop (length (plansFor lines)) numbers;
+      outcome = tells-front (lent-right 10) (read-valid text t said) (tells fits front entries plans bytes);
+    })
+    in
+    let same = answered-unique answered wanted in
+    let success : r .number ≡ 0 = ap (λ (u : Returned). u .number) (same .0) in
+    (success, answered-report answered success front)
+
+-- the working slices that are lent
+abbrev lent : Slices
+lent = slices (replicate places 0) (replicate places 0) (replicate places 0) (replicate places 0) (replicate places 0) (replicate places 0) (replicate places 0) (replicate places 0) (replicate places (replicate maxFollower 0)) (replicate places 0)
+
+lent-sizes : sizes lent ≡ replicate 10 places
+unfolding sizes
+lent-sizes = simp length-replicate
+
+pub entered-answered : {t : Task} {w′ : Slices} {plans′ output output′ : List ℕ} {r : Returned} → Entered t lent w′ (replicate planNumbers 0) plans′ output output′ r → TaskAnswered t output output′ r
+entered-answered {plans′ = plans} e = record { entries = e .entries; plans = plans; outcome = rw lent-sizes at (e .promised .outcome) }
+
+-- what a reading says of the text
+module _ {read : Read} {output : List ℕ} {v : Verdict} (t : Task) where
+  pub accepted-answered : {output′ : List ℕ} {r : Returned} → v ≡ Accepted → reported v t ≡ read → TaskAnswered t output output′ r → Answered read output output′ r
+  unfolding reported
+  accepted-answered {output′} {r} e said a = rw (sym said, e) (reports {output′ = output′} {r = r} refl a)
+
+  pub refused-answered : {q : Refusal} → v ≡ Refused q → reported v t ≡ read → Answered read output output (returned (Report-Refused q))
+  unfolding reported returned
+  refused-answered {q} e said = rw (sym said, e) (refuses (number-some q))

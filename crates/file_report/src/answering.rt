@@ -1,0 +1,119 @@
+// The report of a text, in working slices, entries and a plan slice of the program's own.
+ghost use mathlib.Core.Path.{_≡_};
+ghost use Rattle.task_format.specs.Parse.{parse};
+ghost use Rattle.front.specs.Slices.{slices};
+ghost use Rattle.report.specs.Reported.{returned};
+ghost use Rattle.file_report.specs.Answer.{blank, Entered, TaskAnswered, Answered};
+use pareto::Entry;
+use report::Reported;
+use report::report;
+use strips::Answer;
+use strips::MAX_FOLLOWER;
+use strips::Price;
+use strips::Task;
+use task_reader::Verdict;
+use task_reader::read;
+
+// What the program lends: places of each working slice, entries and plan numbers.
+const PLACES: usize = 1_024;
+
+const ENTRIES: usize = 128;
+
+const PLAN_NUMBERS: usize = 4_096;
+
+fn blank_entry() -> Entry
+    ensures { λ r. ⌜ r ≡ blank ⌝ }
+{
+    Entry {
+        price: Price(0),
+        answer: Answer::None,
+        leader_steps: 0,
+        follower_steps: 0,
+    }
+}
+
+// The report of a task with room for 128 entries.
+fn report_entries<'w, 'b>(
+    task: Task,
+    states: &'w mut [u64],
+    keys: &'w mut [u64],
+    links: &'w mut [usize],
+    tree: &'w mut [usize],
+    marks: &'w mut [u8],
+    values: &'w mut [u64],
+    reached: &'w mut [u8],
+    heads: &'w mut [u32],
+    lists: &'b mut [[u32; MAX_FOLLOWER]],
+    picked: &'w mut [usize],
+    plans: &'w mut [u8],
+    text: &'w mut [u8],
+) -> Reported
+    ensures { λ r. ⌜ Entered task (slices (now (states .entry)) (now (keys .entry)) (now (links .entry)) (now (tree .entry)) (now (marks .entry)) (now (values .entry)) (now (reached .entry)) (now (heads .entry)) (now (lists .entry)) (now (picked .entry))) (slices (now (states .exit)) (now (keys .exit)) (now (links .exit)) (now (tree .exit)) (now (marks .exit)) (now (values .exit)) (now (reached .exit)) (now (heads .exit)) (now (lists .exit)) (now (picked .exit))) (now (plans .entry)) (now (plans .exit)) (now (text .entry)) (now (text .exit)) (returned r) ⌝ }
+{
+    let blank = blank_entry();
+    let mut entries = [blank; ENTRIES];
+    report(
+        task,
+        states,
+        keys,
+        links,
+        tree,
+        marks,
+        values,
+        reached,
+        heads,
+        lists,
+        picked,
+        &mut entries,
+        plans,
+        text,
+    )
+}
+
+// The report of a task in 1,024 places of each working slice, with room for 4,096 plan numbers.
+fn report_task(task: Task, output: &mut [u8]) -> Reported
+    ensures { λ r. ⌜ TaskAnswered task (now (output .entry)) (now (output .exit)) (returned r) ⌝ }
+{
+    let mut states = [0u64; PLACES];
+    let mut keys = [0u64; PLACES];
+    let mut links = [0usize; PLACES];
+    let mut tree = [0usize; PLACES];
+    let mut marks = [0u8; PLACES];
+    let mut values = [0u64; PLACES];
+    let mut reached = [0u8; PLACES];
+    let mut heads = [0u32; PLACES];
+    let row = [0u32; MAX_FOLLOWER];
+    let mut lists = [row; PLACES];
+    let mut picked = [0usize; PLACES];
+    let mut plans = [0u8; PLAN_NUMBERS];
+    report_entries(
+        task,
+        &mut states,
+        &mut keys,
+        &mut links,
+        &mut tree,
+        &mut marks,
+        &mut values,
+        &mut reached,
+        &mut heads,
+        &mut lists,
+        &mut picked,
+        &mut plans,
+        output,
+    )
+}
+
+// The report of the task that a text says, or the first question that gets no.
+pub fn answer(text: &[u8], output: &mut [u8]) -> Reported
+    ensures { λ r. ⌜ Answered (parse (now (text .entry))) (now (output .entry)) (now (output .exit)) (returned r) ⌝ }
+{
+    let reading = read(text);
+    let verdict = reading.verdict;
+    match verdict {
+        Verdict::Accepted => {
+            let task = reading.task;
+            report_task(task, output)
+        }
+        Verdict::Refused(refusal) => Reported::Refused(refusal),
+    }
+}

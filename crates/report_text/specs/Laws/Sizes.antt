@@ -1,0 +1,135 @@
+-- The bytes of a front's text, part by part.
+use mathlib.Core.Path.{_≡_, refl, sym, ap, _∙_}
+use mathlib.Core.List.{List, [], _∷_, _++_}
+use Prim.Native.Nat.{ℕ, zero, suc, _+_, _/_, _≤_, _<_}
+use native.Mathlib.Omega.{arith}
+use native.Mathlib.Numerals.{add-one}
+use lib.ListN.{length, getD, drop, length-append, drop-of-length-le}
+use lib.Seq.{drop-cons}
+use Rattle.strips.specs.Answer.{Value, minutes, none, valueOf}
+use Rattle.task_format.specs.Text.{newline, comma}
+use Rattle.task_format.specs.Lines.{outagesKey, movesKey}
+use Rattle.pareto.specs.Front.{Line}
+use Rattle.pareto.specs.declared.Entry.{Entry}
+use Rattle.pareto.specs.Entries.{answerOf, entryOf}
+use Rattle.pareto.specs.Layout.{answerFor, entryFor}
+use Rattle.report_text.specs.Report.{entriesKey, priceKey, answerKey, noneWord, numeral, furtherText, planText, answerText, printed, lineText, linesText, headText, reportText}
+use Rattle.report_text.specs.Rows.{rowAnswer, rowLine, entryBytes}
+use Rattle.report_text.specs.Laws.Numerals.{numeral-short, numeral-long}
+
+-- ---- numbers
+
+pub digits-last : (n : ℕ) → 10 ≤ n → length (numeral n) ≡ length (numeral (n / 10)) + 1
+digits-last n h = ap length (numeral-long n h) ∙ length-append (numeral (n / 10)) _
+
+pub digits-one : (n : ℕ) → n < 10 → length (numeral n) ≡ 1
+digits-one n h = ap length (numeral-short n h)
+
+-- ---- plans
+
+pub plan-none : (plan : List ℕ) → length plan ≡ 0 → planText plan ≡ []
+unfolding planText
+plan-none [] e = refl
+plan-none (n ∷ ns) e = absurd (omega arith)
+
+pub plan-first : (plan : List ℕ) → 0 < length plan → planText plan ≡ numeral (getD plan 0 0) ++ furtherText (drop 1 plan)
+unfolding planText
+plan-first [] h = absurd (omega arith)
+plan-first (n ∷ ns) h = refl
+
+pub further-none : (plan : List ℕ) (i : ℕ) → length plan ≤ i → furtherText (drop i plan) ≡ []
+unfolding furtherText
+further-none plan i h = rw (drop-of-length-le plan {i = i} h) refl
+
+pub further-turn : (plan : List ℕ) (i : ℕ) → i < length plan → furtherText (drop i plan) ≡ comma ∷ (numeral (getD plan i 0) ++ furtherText (drop (i + 1) plan))
+unfolding furtherText
+further-turn plan i h = rw (add-one i, drop-cons plan i 0 h) refl
+
+pub first-length : (plan : List ℕ) → 0 < length plan → length (planText plan) ≡ length (numeral (getD plan 0 0)) + length (furtherText (drop 1 plan))
+first-length plan h = ap length (plan-first plan h) ∙ length-append (numeral (getD plan 0 0)) (furtherText (drop 1 plan))
+
+pub further-length : (plan : List ℕ) (i : ℕ) → i < length plan → length (furtherText (drop i plan)) ≡ 1 + length (numeral (getD plan i 0)) + length (furtherText (drop (i + 1) plan))
+further-length plan i h = ap length (further-turn plan i h) ∙ omega (arith, length-append (numeral (getD plan i 0)) (furtherText (drop (i + 1) plan)))
+
+-- ---- answers
+
+pub none-bytes : (mark m : ℕ) → mark ≡ 0 → answerText (rowAnswer mark m) ≡ noneWord
+unfolding answerOf answerText
+none-bytes mark m e = rw e refl
+
+pub minutes-bytes : (mark m : ℕ) → (mark ≡ 0 → ⊥) → answerText (rowAnswer mark m) ≡ numeral m
+unfolding answerOf answerText
+minutes-bytes zero m n = absurd (n refl)
+minutes-bytes (suc k) m n = refl
+
+-- ---- lines
+
+pub printed-length : (key v : List ℕ) → length (printed key v) ≡ length key + length v + 1
+unfolding printed
+printed-length key v = omega (arith, length-append key (v ++ (newline ∷ [])), length-append v (newline ∷ []))
+
+pub four-length : (l : Line) → length (lineText l)
+    ≡ length (printed priceKey (numeral (l .price))) + (length (printed answerKey (answerText (l .answer))) + (length (printed outagesKey (planText (l .leader-plan))) + length (printed movesKey (planText (l .follower-plan)))))
+unfolding lineText
+four-length l =
+    let price = printed priceKey (numeral (l .price)) in
+    let answer = printed answerKey (answerText (l .answer)) in
+    let outages = printed outagesKey (planText (l .leader-plan)) in
+    let moves = printed movesKey (planText (l .follower-plan)) in
+    omega (arith, length-append price (answer ++ (outages ++ moves)), length-append answer (outages ++ moves), length-append outages moves)
+
+line-length : (l : Line) → length (lineText l) ≡ 31 + length (numeral (l .price)) + length (answerText (l .answer)) + length (planText (l .leader-plan)) + length (planText (l .follower-plan))
+line-length l =
+    omega (
+      arith,
+      four-length l,
+      printed-length priceKey (numeral (l .price)),
+      printed-length answerKey (answerText (l .answer)),
+      printed-length outagesKey (planText (l .leader-plan)),
+      printed-length movesKey (planText (l .follower-plan)),
+    )
+
+pub entry-bytes : (row : List ℕ) → entryBytes row ≡ 31 + length (numeral (getD row 0 0)) + length (answerText (rowAnswer (getD row 1 0) (getD row 2 0)))
+unfolding entryBytes planText
+entry-bytes row = line-length (rowLine row [] []) ∙ omega arith
+
+-- the bytes of a row's line
+row-bytes : (row p q : List ℕ) → length (lineText (rowLine row p q)) ≡ entryBytes row + length (planText p) + length (planText q)
+row-bytes row p q = omega (arith, line-length (rowLine row p q), entry-bytes row)
+
+answer-back : (a : Value) → valueOf (answerFor a) ≡ a
+unfolding answerFor
+answer-back (minutes n) = refl
+answer-back none = refl
+
+-- a row with the entry of a line has that line
+pub row-line : (row : List ℕ) (l : Line) → entryOf row ≡ entryFor l → rowLine row (l .leader-plan) (l .follower-plan) ≡ l
+unfolding entryOf entryFor
+row-line row l e =
+    λ k. record {
+      price = ap (λ (x : Entry). x .price .0) e k;
+      answer = (ap (λ (x : Entry). valueOf (x .answer)) e ∙ answer-back (l .answer)) k;
+      leader-plan = l .leader-plan;
+      follower-plan = l .follower-plan;
+    }
+
+pub line-bytes : (row : List ℕ) (l : Line) → entryOf row ≡ entryFor l → length (lineText l) ≡ entryBytes row + length (planText (l .leader-plan)) + length (planText (l .follower-plan))
+line-bytes row l e = ap (λ (x : Line). length (lineText x)) (sym (row-line row l e)) ∙ row-bytes row (l .leader-plan) (l .follower-plan)
+
+-- ---- the whole text
+
+pub head-length : (count : ℕ) → length (headText count) ≡ 9 + length (numeral count)
+unfolding headText
+head-length count = omega (arith, printed-length entriesKey (numeral count))
+
+pub lines-none : length (linesText []) ≡ 0
+unfolding linesText
+lines-none = refl
+
+pub lines-more : (l : Line) (ls : List Line) → length (linesText (l ∷ ls)) ≡ length (lineText l) + length (linesText ls)
+unfolding linesText
+lines-more l ls = length-append (lineText l) (linesText ls)
+
+pub report-length : (ls : List Line) → length (reportText ls) ≡ length (headText (length ls)) + length (linesText ls)
+unfolding reportText
+report-length ls = length-append (headText (length ls)) (linesText ls)

@@ -1,0 +1,2 @@
+-- What is proved about bytes that are put.
+pub mod Puts
