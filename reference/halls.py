@@ -90,7 +90,42 @@ def stuck(rng):
     return hall._replace(moves=[])
 
 
-KINDS = [free, free, belts, detour, ties, cube, stuck]
+def ladder(rng):
+    """Every set of outages is a line of its own: fronts up to and past the lent entries and bytes."""
+    size = rng.randint(2, 8)
+    scale = rng.choice([1, 3, 39])
+    idle = rng.choice([0, 0, 8])
+    nothing = Action(0, frozenset({size + 1}), frozenset(), frozenset())
+    outages = [nothing] * idle + [Action(scale * 2**i, frozenset({i + 1}), frozenset({i + 1}), frozenset()) for i in range(size)]
+    moves = [nothing] * idle + [Action(scale * 2**i, frozenset(), frozenset(), frozenset({i + 1})) for i in range(size)]
+    facts = frozenset(range(1, size + 1))
+    return Hall(size + 1, facts, facts, outages, moves)
+
+
+def toll(rng):
+    """Marks that the crew pays off before it counts through every number of some bits: plans up to and past what is lent."""
+    bits = rng.choice([2, 4, 6, 8, 9])
+    weights = rng.choice([[1], [1, 2], [1, 2, 2], [1, 2, 4]])
+    idle = [Action(0, frozenset({2 * bits + len(weights) + 1}), frozenset(), frozenset())] * rng.choice([0, 9])
+
+    def one(i):
+        return 2 * i + 1
+
+    def zero(i):
+        return 2 * i + 2
+
+    paid = [2 * bits + 1 + i for i in range(len(weights))]
+    moves = idle + [Action(weight, frozenset(), frozenset(), frozenset({fact})) for weight, fact in zip(weights, paid)]
+    for i in range(bits):
+        below = range(i)
+        needs = frozenset({zero(i), *map(one, below), *paid})
+        moves.append(Action(rng.randint(0, 1), needs, frozenset({zero(i), *map(one, below)}), frozenset({one(i), *map(zero, below)})))
+    outages = [Action(weight, frozenset({fact, zero(0)}), frozenset({fact}), frozenset()) for weight, fact in zip(weights, paid)]
+    start = frozenset({*map(zero, range(bits)), *paid})
+    return Hall(2 * bits + len(weights) + 1, start, frozenset(map(one, range(bits))), outages, moves)
+
+
+KINDS = [free, free, belts, detour, ties, cube, stuck, ladder, toll]
 
 
 def damaged(rng, text):

@@ -1,0 +1,32 @@
+"""Writes what the test program report_test reads and has to print: python3 reference/report_cases.py
+
+Its input is small halls and damaged texts, and its output is what this planner prints for them; then come the two calls
+that the program makes itself.
+"""
+
+import pathlib
+
+import halls
+import planner
+
+CRATE = pathlib.Path(__file__).parent.parent / "crates" / "report_test"
+EXAMPLE = pathlib.Path(__file__).parent.parent / "examples" / "worked_hall.txt"
+SEED = 2026
+COUNT = 600
+SEPARATOR = b"%"
+# Texts at the limit of question 1 are left to task_file_test.
+LONGEST = 20_000
+
+
+def main():
+    texts = [text for text in halls.cases(SEED, COUNT) if SEPARATOR not in text and len(text) < LONGEST]
+    (CRATE / "stdin").write_bytes(b"".join(text + SEPARATOR for text in texts))
+    report = planner.run(EXAMPLE.read_bytes())
+    enough = report + report + b"\n"
+    short = b"refused=16\nline=0\n" + b"." * (len(report) - 1) + b"\n"
+    (CRATE / "stdout").write_bytes(b"".join(map(planner.run, texts)) + enough + short)
+    print(f"{len(texts)} texts")
+
+
+if __name__ == "__main__":
+    main()
