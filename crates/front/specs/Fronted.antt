@@ -3,7 +3,6 @@ use mathlib.Core.Path.{_≡_}
 use mathlib.Core.List.{List, _++_, map}
 use Prim.Native.Nat.{ℕ, _≤_, _<_}
 use lib.ListN.{length, drop}
-use Rattle.strips.specs.Refusal.{numberOf, placeOf}
 use Rattle.strips.specs.Task.{Valid}
 use Rattle.strips.specs.declared.Task.{Task}
 use Rattle.search.specs.Reachable.{Fits}
@@ -11,25 +10,8 @@ use Rattle.response.specs.Answered.{Lent, shortest}
 use Rattle.pareto.specs.Front.{Line, Front}
 use Rattle.pareto.specs.Layout.{entryFor, plansFor}
 use Rattle.pareto.specs.declared.Entry.{Entry}
+use Rattle.lines.specs.Returned.{Returned, refused, listed}
 use Rattle.front.specs.Slices.{Slices, sizes, leftIn}
-use Rattle.front.specs.declared.Fronted.{Fronted}
-use Rattle.front.specs.declared.Fronted.the-variants.{Lines, Refused}
-
--- number and place of the first question that gets no, 0 and 0 where none does; the number of entries
-pub record Returned : Type 0 where
-  pub number : ℕ
-  pub place : ℕ
-  pub count : ℕ
-
-abbrev pub refused : ℕ → Returned
-refused n = record { number = n; place = 0; count = 0 }
-
-abbrev pub listed : ℕ → Returned
-listed k = record { number = 0; place = 0; count = k }
-
-unfoldable pub returned : Fronted → Returned
-returned (Lines k) = listed k
-returned (Refused q) = record { number = numberOf q; place = placeOf q; count = 0 }
 
 -- questions 13 to 15 with n places for states: what is returned, and what entries and plan slice hold then
 pub data Listed (t : Task) (n : ℕ) (entries : List Entry) (plans : List ℕ) : Returned → List Entry → List ℕ → Type 0 where

@@ -1,9 +1,10 @@
 // The front call: the lines are listed, and their entries are taken from the rows of numbers.
-ghost use Rattle.front.specs.Fronted.{returned, Promised};
+ghost use Rattle.lines.specs.Returned.{returned};
+ghost use Rattle.front.specs.Fronted.{Promised};
 ghost use Rattle.front.specs.Slices.{slices};
-use crate::Fronted;
 use crate::trying::line_count;
 use crate::trying::list_front;
+use lines::Fronted;
 use pareto::Entry;
 use pareto::take_entries;
 use strips::MAX_FOLLOWER;

@@ -6,7 +6,7 @@ use lib.ListN.{length}
 use Rattle.strips.specs.declared.Task.{Task}
 use Rattle.pareto.specs.Front.{Line, Front}
 use Rattle.report_text.specs.Rows as R
-use Rattle.front.specs.Fronted as F
+use Rattle.lines.specs.Returned as F
 use Rattle.front.specs.Slices.{Slices}
 use Rattle.front.specs.Listing.{Prepared}
 use Rattle.report.specs.Reported.{Returned}

@@ -1,7 +1,7 @@
 // The lines listed and their text written, before the entries are taken.
 ghost use mathlib.Core.Path.{_≡_};
 ghost use Rattle.report_text.specs.Rows.{Ready};
-ghost use Rattle.front.specs.Fronted as F;
+ghost use Rattle.lines.specs.Returned as F;
 ghost use Rattle.front.specs.Slices.{slices};
 ghost use Rattle.report.specs.Reported.{returned};
 ghost use Rattle.report.specs.Printing.{Texted, Printed};

@@ -15,18 +15,21 @@ use Rattle.pareto.specs.Entries.{entryOf, filled, emptied}
 use Rattle.pareto.specs.Layout.{entryFor}
 use Rattle.pareto.specs.Laws.Entries.{filled-is}
 use Rattle.pareto.specs.declared.Entry.{Entry}
-use Rattle.front.specs.Limits.{anyText}
+use Rattle.lines.specs.Limits.{anyText}
 use Rattle.front.specs.Slices.{Slices, sizes, cleared, clearedBut, withoutRows}
-use Rattle.front.specs.Fronted.{Returned, refused, Listed, too-many, no-entries, no-plans, lists, Outcome, refused-8, refused-9, lists-front, Promised}
+use Rattle.lines.specs.Returned.{Returned, refused}
+use Rattle.lines.specs.Drawing as D
+use Rattle.lines.specs.Drawing.{Drawn, drawn, no-text}
+use Rattle.front.specs.Fronted.{Listed, too-many, no-entries, no-plans, lists, Outcome, refused-8, refused-9, lists-front, Promised}
 use Rattle.front.specs.Listing as L
-use Rattle.front.specs.Listing.{Drawn, drawn, no-text, Tried, fitting, Ready, tried, Prepared}
+use Rattle.front.specs.Listing.{Tried, fitting, Ready, tried, Prepared}
 use Rattle.front.specs.Laws.Slices.{SameSizes, cleared-later}
 
 -- the entries and their rows have room for as many lines as are returned
 module _ {t : Task} {room most : ℕ} {plans : List ℕ} where
   drawn-room : {r : Returned} {plans′ : List ℕ} {rows : List (List ℕ)} → Drawn t room most plans r plans′ rows → (r .count ≤ room) × (r .count ≤ length rows)
-  drawn-room (L.no-entries f a) = (omega arith, omega arith)
-  drawn-room (L.no-plans f a b) = (omega arith, omega arith)
+  drawn-room (D.no-entries f a) = (omega arith, omega arith)
+  drawn-room (D.no-plans f a b) = (omega arith, omega arith)
   drawn-room (no-text f a b c d) = (omega arith, omega arith)
   drawn-room (drawn f a b c d e) = (a, d)
 
@@ -41,8 +44,8 @@ module _ {t : Task} {room most : ℕ} {plans : List ℕ} where
 
   -- other rows behind those of the entries
   drawn-kept : {r : Returned} {plans′ : List ℕ} {rows : List (List ℕ)} → Drawn t room most plans r plans′ rows → (rest : List (List ℕ)) → Drawn t room most plans r plans′ (take (r .count) rows ++ rest)
-  drawn-kept (L.no-entries f a) rest = L.no-entries f a
-  drawn-kept (L.no-plans f a b) rest = L.no-plans f a b
+  drawn-kept (D.no-entries f a) rest = D.no-entries f a
+  drawn-kept (D.no-plans f a b) rest = D.no-plans f a b
   drawn-kept (no-text f a b c d) rest = no-text f a b c d
   drawn-kept (drawn {lines = ls} {rows = rows} f a b c d e) rest =
       let long : length (take (length ls) rows) ≡ length ls = length-take-le (length ls) rows d in
@@ -63,8 +66,8 @@ module _ {t : Task} {room most : ℕ} {plans : List ℕ} where
 
   tried-number : {n : ℕ} {r : Returned} {plans′ : List ℕ} {rows : List (List ℕ)} → Tried t n room most plans r plans′ rows → (8 ≤ r .number) × (r .number ≤ 12) → ⊥
   tried-number (L.too-many f) h = omega (arith, h)
-  tried-number (fitting f (L.no-entries g a)) h = omega (arith, h)
-  tried-number (fitting f (L.no-plans g a b)) h = omega (arith, h)
+  tried-number (fitting f (D.no-entries g a)) h = omega (arith, h)
+  tried-number (fitting f (D.no-plans g a b)) h = omega (arith, h)
   tried-number (fitting f (no-text g a b c d)) h = omega (arith, h)
   tried-number (fitting f (drawn g a b c d e)) h = omega (arith, h)
 
@@ -90,8 +93,8 @@ module _ {t : Task} {n : ℕ} {entries : List Entry} {plans : List ℕ} where
   listed-of : {r : Returned} {plans′ : List ℕ} {rows : List (List ℕ)} → Tried t n (length entries) anyText plans r plans′ rows → Listed t n entries plans r (filled entries rows (r .count)) plans′
   unfolding filled
   listed-of (L.too-many f) = too-many f
-  listed-of (fitting f (L.no-entries g a)) = no-entries f g a
-  listed-of (fitting f (L.no-plans g a b)) = no-plans f g a b
+  listed-of (fitting f (D.no-entries g a)) = no-entries f g a
+  listed-of (fitting f (D.no-plans g a b)) = no-plans f g a b
   listed-of (fitting f (no-text g a b c d)) = absurd (omega arith)
   listed-of (fitting f (drawn {lines = ls} {rows = rows} g a b c d e)) = rw (entries-filled entries rows ls a d e) (lists f g a b)
 

@@ -14,7 +14,7 @@ use Rattle.pareto.specs.Entries.{emptied}
 use Rattle.pareto.specs.Laws.Entries.{emptied-is}
 use Rattle.front.specs.Slices.{Slices, slices, cleared, clearedBut, withoutRows}
 use Rattle.front.specs.Working.{RestWiped}
-use Rattle.front.specs.Laws.Writing.{rest-of, put-rest}
+use Rattle.lines.specs.Laws.Writing.{rest-of, put-rest}
 
 -- the rest of the rows is cleared
 pub rows-cleared : (kept : ℕ) (rows part : List (List ℕ)) → kept ≤ length rows → part ≡ zeroRows (midOf kept (length rows - kept) rows)

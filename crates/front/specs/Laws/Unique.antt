@@ -8,7 +8,8 @@ use Rattle.strips.specs.declared.Task.{Task}
 use Rattle.pareto.specs.Laws.Unique.{front-unique}
 use Rattle.pareto.specs.declared.Entry.{Entry}
 use Rattle.pareto.specs.Layout.{plansFor}
-use Rattle.front.specs.Fronted.{Returned, Listed, too-many, no-entries, no-plans, lists, Outcome, refused-8, refused-9, lists-front, Promised}
+use Rattle.lines.specs.Returned.{Returned}
+use Rattle.front.specs.Fronted.{Listed, too-many, no-entries, no-plans, lists, Outcome, refused-8, refused-9, lists-front, Promised}
 use Rattle.front.specs.Slices.{Slices, leftIn}
 
 module _ {t : Task} {n : ℕ} {entries : List Entry} {plans : List ℕ} where

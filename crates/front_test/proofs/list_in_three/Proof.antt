@@ -53,9 +53,9 @@ use Rattle.pareto.proofs.Rows.{row, rows-slot}
 use Rattle.pareto.proofs.Local.{valueOf, lends-array, array-home}
 use Rattle.pareto.proofs.Entry as T
 use Rattle.pareto.proofs.Entry.Laws as T′
-use Rattle.front.specs.declared.Fronted.{Fronted}
-use Rattle.front.proofs.Fronted as TR
-use Rattle.front.proofs.Fronted.Laws as TR′
+use Rattle.lines.specs.declared.Fronted.{Fronted}
+use Rattle.lines.proofs.Fronted as TR
+use Rattle.lines.proofs.Fronted.Laws as TR′
 use Rattle.front.proofs.front as p
 use Rattle.front.proofs.front.Symbol as p-def
 use Rattle.front.proofs.front.Symbol.{name as #front}

@@ -18,11 +18,12 @@ use Rattle.pareto.specs.Laws.Unique.{front-unique}
 use Rattle.report_text.specs.Report.{reportText}
 use Rattle.report_text.specs.Rows as R
 use Rattle.report_text.specs.Rows.{Describes}
-use Rattle.front.specs.declared.Fronted.{Fronted}
-use Rattle.front.specs.declared.Fronted.the-variants.{Lines, Refused}
-use Rattle.front.specs.Fronted.{Returned, returned}
+use Rattle.lines.specs.declared.Fronted.{Fronted}
+use Rattle.lines.specs.declared.Fronted.the-variants.{Lines, Refused}
+use Rattle.lines.specs.Returned.{Returned, returned}
 use Rattle.front.specs.Slices.{Slices, sizes, cleared, withoutRows}
-use Rattle.front.specs.Listing.{Drawn, no-entries, no-plans, no-text, drawn, Tried, too-many, fitting, Ready, refused-8, refused-9, tried, Prepared}
+use Rattle.lines.specs.Drawing.{Drawn, no-entries, no-plans, no-text, drawn}
+use Rattle.front.specs.Listing.{Tried, too-many, fitting, Ready, refused-8, refused-9, tried, Prepared}
 use Rattle.report.specs.declared.Reported.the-variants.{Written, Refused as U-Refused}
 use Rattle.report.specs.Reported as U
 use Rattle.report.specs.Printing.{Texted, Printed}

@@ -9,8 +9,9 @@ use Rattle.pareto.specs.Front.{Line, Front}
 use Rattle.pareto.specs.Entries.{filled}
 use Rattle.pareto.specs.declared.Entry.{Entry}
 use Rattle.report_text.specs.Rows as R
-use Rattle.front.specs.Fronted as F
+use Rattle.lines.specs.Returned as F
 use Rattle.front.specs.Slices.{Slices, withoutRows}
+use Rattle.lines.specs.Drawing as D
 use Rattle.front.specs.Listing as L
 use Rattle.front.specs.Laws.Promise.{entries-filled}
 use Rattle.report.specs.Reported.{Returned, refused, Told, too-many, no-entries, no-plans, no-text, tells, Outcome, refused-8, refused-9, tells-front, Promised}
@@ -33,10 +34,10 @@ module _ {t : Task} {entries : List Entry} {plans text text′ : List ℕ} (r : 
   told-of : {n : ℕ} {f : F.Returned} {plans′ : List ℕ} {rows : List (List ℕ)} → L.Tried t n (length entries) (length text) plans f plans′ rows → listedOf r ≡ f
       → Told t n entries plans text r (filled entries rows (r .count)) plans′ text′
   told-of {n} (L.too-many {rows = rows} f) e = refusing (λ u es x. Told t n entries plans text u es plans x) rows kept (omega arith) e (too-many f)
-  told-of {n} (L.fitting f (L.no-entries {rows = rows} g a)) e = refusing (λ u es x. Told t n entries plans text u es plans x) rows kept (omega arith) e (no-entries f g a)
-  told-of {n} (L.fitting f (L.no-plans {rows = rows} g a b)) e = refusing (λ u es x. Told t n entries plans text u es plans x) rows kept (omega arith) e (no-plans f g a b)
-  told-of {n} (L.fitting f (L.no-text {rows = rows} g a b c d)) e = refusing (λ u es x. Told t n entries plans text u es plans x) rows kept (omega arith) e (no-text f g a b c)
-  told-of (L.fitting f (L.drawn {lines = ls} {rows = rows} g a b c d x)) e =
+  told-of {n} (L.fitting f (D.no-entries {rows = rows} g a)) e = refusing (λ u es x. Told t n entries plans text u es plans x) rows kept (omega arith) e (no-entries f g a)
+  told-of {n} (L.fitting f (D.no-plans {rows = rows} g a b)) e = refusing (λ u es x. Told t n entries plans text u es plans x) rows kept (omega arith) e (no-plans f g a b)
+  told-of {n} (L.fitting f (D.no-text {rows = rows} g a b c d)) e = refusing (λ u es x. Told t n entries plans text u es plans x) rows kept (omega arith) e (no-text f g a b c)
+  told-of (L.fitting f (D.drawn {lines = ls} {rows = rows} g a b c d x)) e =
       let text-put = put (ap (λ (s : F.Returned). s .number) e) ls g in
       rw (all-of r e (text-put .bytes), text-put .text, entries-filled entries rows ls a d x) (tells f g a b c)
 

@@ -50,14 +50,15 @@ use Rattle.pareto.proofs.take_entries as g
 use Rattle.pareto.proofs.take_entries.Symbol as g-def
 use Rattle.pareto.proofs.take_entries.Symbol.{name as #take-entries}
 use Rattle.pareto.proofs.take_entries.Met as g-thm
-use Rattle.front.specs.declared.Fronted.{Fronted}
-use Rattle.front.specs.Limits.{anyText}
+use Rattle.lines.specs.declared.Fronted.{Fronted}
+use Rattle.lines.specs.Limits.{anyText}
 use Rattle.front.specs.Slices.{Slices, slices, withoutRows}
-use Rattle.front.specs.Fronted.{Returned, returned, Promised}
+use Rattle.lines.specs.Returned.{Returned, returned}
+use Rattle.front.specs.Fronted.{Promised}
 use Rattle.front.specs.Listing.{Prepared}
 use Rattle.front.specs.Laws.Promise.{ready-room, prepared-promised}
-use Rattle.front.proofs.Fronted as TR
-use Rattle.front.proofs.Fronted.Laws as TR′
+use Rattle.lines.proofs.Fronted as TR
+use Rattle.lines.proofs.Fronted.Laws as TR′
 use Rattle.front.proofs.trying.list_front as p
 use Rattle.front.proofs.trying.list_front.Symbol as p-def
 use Rattle.front.proofs.trying.list_front.Symbol.{name as #list-front}

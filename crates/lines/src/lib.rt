@@ -1,0 +1,15 @@
+// The lines of the Pareto front over the table of reachable states: their rows, questions 14 to 16, their plans and numbers.
+mod choosing;
+mod listing;
+mod numbers;
+mod sizing;
+mod writing;
+
+pub use listing::list_lines;
+use strips::Refusal;
+
+// The number of lines, or the first question that gets no.
+pub enum Fronted {
+    Lines(usize),
+    Refused(Refusal),
+}
