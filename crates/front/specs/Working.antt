@@ -8,7 +8,8 @@ use Rattle.strips.specs.declared.Task.{Task}
 use Rattle.search.specs.Limits.{maxPlaces}
 use Rattle.search.specs.Rows.{ReachTable}
 use Rattle.search.specs.Cleared.{zeros, zeroRows}
-use Rattle.front.specs.Slices.{Slices}
+use Rattle.response.specs.Answered.{Lent, shortest}
+use Rattle.front.specs.Slices.{Slices, sizes}
 
 -- each slice has n places at least
 pub record Spacious (n : ℕ) (w : Slices) : Type 0 where
@@ -22,6 +23,13 @@ pub record Spacious (n : ℕ) (w : Slices) : Type 0 where
   pub room-heads : n ≤ length (w .heads)
   pub room-lists : n ≤ length (w .lists)
   pub room-picked : n ≤ length (w .picked)
+
+-- questions 8 and 9 have their yes, with n places for states
+pub record Allowed (t : Task) (n : ℕ) (w : Slices) : Type 0 where
+  pub valid : Valid t
+  pub some : 1 ≤ n
+  pub lent : Lent (sizes w)
+  pub size : n ≡ shortest (sizes w)
 
 -- a valid task, and slices of any content
 pub record Roomy (t : Task) (n : ℕ) (w : Slices) : Type 0 where

@@ -23,6 +23,7 @@ use Rattle.lines.specs.Drawing.{Drawn, drawn, no-text}
 use Rattle.front.specs.Fronted.{Listed, too-many, no-entries, no-plans, lists, Outcome, refused-8, refused-9, lists-front, Promised}
 use Rattle.front.specs.Listing as L
 use Rattle.front.specs.Listing.{Tried, fitting, Ready, tried, Prepared}
+use Rattle.front.specs.Working.{Allowed}
 use Rattle.front.specs.Laws.Slices.{SameSizes, cleared-later}
 
 -- the entries and their rows have room for as many lines as are returned
@@ -56,14 +57,6 @@ module _ {t : Task} {room most : ℕ} {plans : List ℕ} where
   tried-kept (L.too-many f) rest = L.too-many f
   tried-kept (fitting f d) rest = fitting f (drawn-kept d rest)
 
-  -- the slices are cleared but for the rows of the entries
-  pub wiped-tried : {n : ℕ} {r : Returned} {plans′ : List ℕ} {w w₁ w₂ : Slices} {kept : ℕ} → Tried t n room most plans r plans′ (w₁ .lists) → kept ≡ r .count → SameSizes w w₁ → w₂ ≡ clearedBut kept w₁
-      → Tried t n room most plans r plans′ (w₂ .lists) × (withoutRows (r .count) w₂ ≡ cleared w)
-  unfolding clearedBut
-  wiped-tried {r = r} {w = w} {w₁ = w₁} x e same f =
-      let g = f ∙ ap (λ (k : ℕ). clearedBut k w₁) e in
-      (rw g (tried-kept x (zeroRows (drop (r .count) (w₁ .lists)))), rw g (cleared-later w w₁ (r .count) same (tried-room x .1)))
-
   tried-number : {n : ℕ} {r : Returned} {plans′ : List ℕ} {rows : List (List ℕ)} → Tried t n room most plans r plans′ rows → (8 ≤ r .number) × (r .number ≤ 12) → ⊥
   tried-number (L.too-many f) h = omega (arith, h)
   tried-number (fitting f (D.no-entries g a)) h = omega (arith, h)
@@ -80,9 +73,17 @@ module _ {t : Task} {room most : ℕ} {plans : List ℕ} where
     unfolding withoutRows emptied
     prepared-9 l out = record { outcome = L.refused-9 l out; left = left-held 9 (omega arith) (omega arith) w (cleared w) }
 
-    pub prepared-tried : {n : ℕ} {r : Returned} {plans′ : List ℕ} {w′ : Slices} → Lent (sizes w) → Valid t → n ≡ shortest (sizes w)
-        → Tried t n room most plans r plans′ (w′ .lists) × (withoutRows (r .count) w′ ≡ cleared w) → Prepared t w w′ room most plans plans′ r
-    prepared-tried {r = r} l v e x = record { outcome = tried l v (rw e at (x .0)); left = x .1 ∙ left-clear (r .number) (tried-number (x .0)) w (cleared w) }
+  -- the slices are cleared but for the rows of the entries
+  pub wiped-prepared : {n : ℕ} {r : Returned} {plans′ : List ℕ} {w w₁ w₂ : Slices} {kept : ℕ} → Allowed t n w → Tried t n room most plans r plans′ (w₁ .lists) → kept ≡ r .count → SameSizes w w₁
+      → w₂ ≡ clearedBut kept w₁ → Prepared t w w₂ room most plans plans′ r
+  unfolding clearedBut
+  wiped-prepared {n = n} {r = r} {plans′ = plans′} {w = w} {w₁ = w₁} {w₂ = w₂} a x e same f =
+      let g = f ∙ ap (λ (k : ℕ). clearedBut k w₁) e in
+      let kept : Tried t n room most plans r plans′ (w₂ .lists) = rw g (tried-kept x (zeroRows (drop (r .count) (w₁ .lists)))) in
+      record {
+        outcome = tried (a .lent) (a .valid) (rw (a .size) at kept);
+        left = rw g (cleared-later w w₁ (r .count) same (tried-room x .1)) ∙ left-clear (r .number) (tried-number x) w (cleared w);
+      }
 
 -- the entries of drawn lines
 pub entries-filled : (entries : List Entry) (rows : List (List ℕ)) (lines : List Line) → length lines ≤ length entries → length lines ≤ length rows
