@@ -9,8 +9,8 @@ use Rattle.strips.specs.Decision.{ask}
 use Rattle.strips.specs.Task.{leaderActions}
 use Rattle.strips.specs.Answer.{Value, minutes, valueOf}
 use Rattle.strips.specs.Refusal.{numberOf, placeOf}
-use Rattle.strips.specs.Replay.{endState, replayed}
 use Rattle.strips.specs.declared.Task.{Task}
+use Rattle.replay.specs.Replay.{endState, replayed}
 use Rattle.search.specs.Limits.{maxPlaces}
 use Rattle.search.specs.Reachable.{Fits}
 use Rattle.search.specs.Response.{Response}

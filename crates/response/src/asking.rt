@@ -3,11 +3,11 @@ ghost use Rattle.response.specs.Answered.{returned, Promised};
 use crate::Answered;
 use crate::capacity::with_slices;
 use crate::responding::respond;
+use replay::Replayed;
+use replay::replay;
 use search::MAX_PLACES;
 use strips::Refusal;
-use strips::Replayed;
 use strips::Task;
-use strips::replay;
 
 // The best response to a leader plan. The plan's steps stand at the front of the plan slice.
 pub fn best_response(

@@ -6,6 +6,4 @@ pub mod Task
 pub mod Plan
 pub mod Answer
 pub mod Refusal
-pub mod Replay
-pub mod Run
 pub mod Laws

@@ -1,14 +1,12 @@
-// The lowest layer: facts, actions, tasks, plans, what a step does, and the replay of plans.
+// The lowest layer: facts, actions, tasks, plans and what a step does.
 // This file has the limits and the types; each module has the functions of one subject.
 mod cost;
 mod order;
 mod questions;
-mod running;
 mod state;
 mod validity;
 
 pub use order::smaller;
-pub use running::replay;
 pub use state::applies;
 pub use state::holds;
 pub use state::successor;
@@ -78,17 +76,4 @@ pub enum Refusal {
     TooManyEntries,
     PlansTooLong,
     OutputTooLong,
-}
-
-// A leader plan and then a follower plan, run from the initial state.
-pub struct Ended {
-    pub price: Price,
-    pub minutes: Minutes,
-    pub state: u64,
-    pub goal: bool,
-}
-
-pub enum Replayed {
-    Ran(Ended),
-    Refused(Refusal),
 }

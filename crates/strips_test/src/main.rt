@@ -1,10 +1,10 @@
 // Replays on document 01's worked hall and on records that break a rule, and the smaller of two plans.
 // What it prints is compared with the file stdout.
 use libc::STDOUT_FILENO;
+use replay::Ended;
+use replay::Replayed;
 use strips::Action;
-use strips::Ended;
 use strips::Refusal;
-use strips::Replayed;
 use strips::Task;
 
 fn print(text: &[u8]) {
@@ -34,7 +34,7 @@ fn print_refusal(refusal: Refusal) {
 fn replay(label: &[u8], task: Task, leader_plan: &[u8], follower_plan: &[u8]) {
     print(label);
     print(b":");
-    match strips::replay(task, leader_plan, follower_plan) {
+    match replay::replay(task, leader_plan, follower_plan) {
         Replayed::Ran(end) => print_ended(end),
         Replayed::Refused(refusal) => print_refusal(refusal),
     }

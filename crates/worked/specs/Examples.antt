@@ -11,9 +11,9 @@ use Rattle.strips.specs.Plan.{cost}
 use Rattle.strips.specs.Laws.Validity.{valid?}
 use Rattle.strips.specs.Limits.{maxLeader, maxFollower}
 use Rattle.strips.specs.Answer.{Value, minutes, none}
-use Rattle.strips.specs.Replay.{replayed}
 use Rattle.strips.specs.declared.Action.{Action}
 use Rattle.strips.specs.declared.Task.{Task}
+use Rattle.replay.specs.Replay.{replayed}
 use Rattle.task_format.specs.Text.{newline, comma}
 use Rattle.task_format.specs.Lines.{factsKey, startKey}
 use Rattle.task_format.specs.Parse.{parse, accepted}

@@ -8,8 +8,8 @@ use Rattle.strips.specs.Task.{leaderActions}
 use Rattle.strips.specs.Plan.{done, cost}
 use Rattle.strips.specs.Answer.{Value}
 use Rattle.strips.specs.Laws.Order.{least-unique}
-use Rattle.strips.specs.Laws.Steps.{runs-end}
 use Rattle.strips.specs.declared.Task.{Task}
+use Rattle.replay.specs.Laws.Steps.{runs-end}
 use Rattle.search.specs.Response.{Response}
 use Rattle.search.specs.Laws.Response.{response-unique}
 use Rattle.pareto.specs.Front.{Covers, Attacks, Line, Stands, Lower, Rising, nil, cons, Front}

@@ -6,9 +6,9 @@ use native.Mathlib.Omega.{arith}
 use lib.ListN.{length}
 use Rattle.strips.specs.Task.{Valid, leaderActions}
 use Rattle.strips.specs.Plan.{Runs}
-use Rattle.strips.specs.Replay.{endState, replayed}
-use Rattle.strips.specs.Laws.Replay.{replayed-runs}
 use Rattle.strips.specs.declared.Task.{Task}
+use Rattle.replay.specs.Replay.{endState, replayed}
+use Rattle.replay.specs.Laws.Replay.{replayed-runs}
 use Rattle.search.specs.Laws.Response.{response-unique}
 use Rattle.response.specs.Answered.{Returned, Responded, too-many, no-room, answers, Outcome, refused-8, refused-9-to-12, responds, leftIn, Promised}
 

@@ -10,9 +10,9 @@ use Rattle.strips.specs.Decision.{ask, says}
 use Rattle.strips.specs.State.{holds?, after}
 use Rattle.strips.specs.Task.{leaderActions, followerActions}
 use Rattle.strips.specs.Plan.{known?, cost}
-use Rattle.strips.specs.Replay.{replayed, passing, endState}
 use Rattle.strips.specs.Laws.Decision.{said-yes}
 use Rattle.strips.specs.Laws.Validity.{equivalent?, valid?, places?, unused?, proper?, within?, when?, all-below?}
+use Rattle.replay.specs.Replay.{replayed, passing, endState}
 use Rattle.task_format.specs.Text.{newline, split, begins}
 use Rattle.task_format.specs.Value.{decimalFrom, members, setOf, content, InForm, InRange, Rising}
 use Rattle.task_format.specs.Lines.{keyOf, kindOf, stored, actionKey, partOf, actionField, field}

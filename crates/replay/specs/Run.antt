@@ -3,13 +3,13 @@ use mathlib.Core.Path.{_≡_}
 use mathlib.Core.List.{List}
 use Prim.Native.Nat.{ℕ, _+_, _*_, _≤_, _<_}
 use lib.ListN.{length, getD, take, drop}
 use Rattle.strips.specs.Limits.{maxFollower, maxCost, maxSteps}
 use Rattle.strips.specs.Task.{idle, Valid}
 use Rattle.strips.specs.Plan.{cost}
-use Rattle.strips.specs.Replay.{knownSteps, appliedSteps, endState}
 use Rattle.strips.specs.declared.Action.{Action}
 use Rattle.strips.specs.declared.Task.{Task}
-use Rattle.strips.specs.declared.running.Stop.{Stop}
+use Rattle.replay.specs.Replay.{knownSteps, appliedSteps, endState}
+use Rattle.replay.specs.declared.running.Stop.{Stop}
 
 -- the plan's numbers are those of the first n actions, and its cost fits
 pub record Runnable (places : List Action) (n : ℕ) (p : List ℕ) : Type 0 where

@@ -5,33 +5,20 @@ use Prim.Native.Nat.{ℕ, _+_, _≤_, _<_}
 use native.Mathlib.Decide.{ℕ-discrete, decLe, decLt}
 use native.Mathlib.Omega.{arith}
 use lib.ListN.{length, take, length-take}
 use Rattle.strips.specs.Decision.{says}
 use Rattle.strips.specs.Limits.{maxSteps}
 use Rattle.strips.specs.State.{holds?}
 use Rattle.strips.specs.Task.{Valid, leaderActions, followerActions, padded}
 use Rattle.strips.specs.Plan.{cost, Runs}
-use Rattle.strips.specs.Replay.{Returned, refused, ran, knownSteps, appliedSteps, endState, askSteps, replayed}
-use Rattle.strips.specs.Run.{Runnable, Stopped, Numbered}
 use Rattle.strips.specs.Laws.Decision.{asked-yes, asked-no}
 use Rattle.strips.specs.Laws.Validity.{valid?}
-use Rattle.strips.specs.Laws.Padding.{padded-take, padded-used}
-use Rattle.strips.specs.Laws.Steps.{known-most, applied-most, passes-runs, runs-known, runs-applied, runs-end}
-use Rattle.strips.specs.Laws.Running.{Ended, stopped-ended}
+use Rattle.strips.specs.Laws.Padding.{padded-used, leader-count, follower-count}
 use Rattle.strips.specs.declared.Task.{Task}
-use Rattle.strips.specs.declared.running.Stop.{Stop}
-
-pub leader-count : {t : Task} → Valid t → length (leaderActions t) ≡ t .«leader_count»
-unfolding leaderActions
-leader-count {t} v = omega (arith, length-take (t .«leader_count») (t .leader), v .leader .long, v .leader .room)
-
-pub follower-count : {t : Task} → Valid t → length (followerActions t) ≡ t .«follower_count»
-unfolding followerActions
-follower-count {t} v = omega (arith, length-take (t .«follower_count») (t .follower), v .follower .long, v .follower .room)
-
--- the leader's actions stand first among the padded places
-pub padded-leader : {t : Task} → Valid t → take (t .«leader_count») (padded (t .leader)) ≡ leaderActions t
-unfolding leaderActions
-padded-leader {t} v = padded-take (t .leader) (v .leader .long) (t .«leader_count») (v .leader .room)
+use Rattle.replay.specs.Replay.{Returned, refused, ran, knownSteps, appliedSteps, endState, askSteps, replayed}
+use Rattle.replay.specs.Run.{Runnable, Stopped, Numbered}
+use Rattle.replay.specs.Laws.Steps.{known-most, applied-most, passes-runs, runs-known, runs-applied, runs-end}
+use Rattle.replay.specs.Laws.Running.{Ended, stopped-ended}
+use Rattle.replay.specs.declared.running.Stop.{Stop}
 
 pub leader-runnable : {t : Task} {p q : List ℕ} → Numbered t p q → Runnable (padded (t .leader)) (t .«leader_count») p
 leader-runnable {t} n =

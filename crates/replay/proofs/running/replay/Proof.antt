@@ -1,16 +1,16 @@
--- `strips::running::replay` meets its contract.
+-- `replay::running::replay` meets its contract.
 use mathlib.Core.Path.{_≡_, sym, ap, _∙_}
 use Prim.Native.Nat.{_+_}
 use native.Mathlib.Omega.{arith}
 use lib.ListN.{length}
 use borrow.Author.Needs.{needs}
 use Rattle.strips.specs.Task.{Valid}
-use Rattle.strips.specs.Replay.{returned, refused, knownSteps}
 use Rattle.strips.specs.Laws.Decision.{granted, denied}
-use Rattle.strips.specs.Laws.Steps.{known-most}
-use Rattle.strips.specs.Laws.Replay.{refuses-9, refuses-10-leader, refuses-10-follower, refuses-11-leader, refuses-11-follower}
-use Rattle.strips.proofs.running.replay.Statement.{statement}
-use Rattle.strips.proofs.running.replay.Tie as tie
+use Rattle.replay.specs.Replay.{returned, refused, knownSteps}
+use Rattle.replay.specs.Laws.Steps.{known-most}
+use Rattle.replay.specs.Laws.Replay.{refuses-9, refuses-10-leader, refuses-10-follower, refuses-11-leader, refuses-11-follower}
+use Rattle.replay.proofs.running.replay.Statement.{statement}
+use Rattle.replay.proofs.running.replay.Tie as tie
 
 is-valid-requires : tie.Need-is-valid-requires
 is-valid-requires c κs = search needs

@@ -4,17 +4,17 @@ use mathlib.Core.List.{List, [], _∷_}
 use Prim.Native.Nat.{ℕ, suc, _+_}
 use native.Mathlib.Decide.{ℕ-discrete, decLe}
 use lib.ListN.{length}
 use Rattle.strips.specs.Decision.{says, ask}
 use Rattle.strips.specs.Limits.{maxSteps}
 use Rattle.strips.specs.State.{holds?, applies?, after}
 use Rattle.strips.specs.Task.{leaderActions, followerActions}
 use Rattle.strips.specs.Plan.{known?, action, cost}
 use Rattle.strips.specs.Refusal.{numberOf, placeOf}
 use Rattle.strips.specs.Laws.Validity.{valid?}
 use Rattle.strips.specs.declared.Action.{Action}
 use Rattle.strips.specs.declared.Task.{Task}
-use Rattle.strips.specs.declared.Replayed.{Replayed}
-use Rattle.strips.specs.declared.Replayed.the-variants.{Ran, Refused}
+use Rattle.replay.specs.declared.Replayed.{Replayed}
+use Rattle.replay.specs.declared.Replayed.the-variants.{Ran, Refused}
 
 -- number and place of the first question that gets no, 0 and 0 where none does; both costs, the end state, whether it holds the goal
 pub record Returned : Type 0 where

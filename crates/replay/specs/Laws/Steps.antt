@@ -6,13 +6,13 @@ use native.Mathlib.Numerals.{add-one}
 use native.Mathlib.Omega.{arith}
 use lib.ListN.{length, getD, take, drop}
 use lib.Seq.{drop-cons, drop-length, take-suc, getD-take}
 use Rattle.strips.specs.State.{Applies, applies?, after}
 use Rattle.strips.specs.Task.{idle}
 use Rattle.strips.specs.Plan.{Known, known?, action, cost, Runs, done, next}
-use Rattle.strips.specs.Replay.{passing, knownSteps, appliedSteps, endState}
 use Rattle.strips.specs.Laws.Decision.{asked-yes, asked-no}
 use Rattle.strips.specs.Laws.Order.{cost-snoc}
 use Rattle.strips.specs.declared.Action.{Action}
+use Rattle.replay.specs.Replay.{passing, knownSteps, appliedSteps, endState}
 
 -- the action of a known number, among all places
 pub action-take : (places : List Action) (n k : ℕ) → Known n k → action (take n places) k ≡ getD places (k - 1) idle

@@ -1,13 +1,13 @@
--- `strips::running::known_steps` meets its contract. The loop's invariant: the steps passed are known.
+-- `replay::running::known_steps` meets its contract. The loop's invariant: the steps passed are known.
 use mathlib.Core.Path.{_≡_, ap}
 use Prim.Native.Nat.{_+_, _-_, _≤_}
 use native.Mathlib.Omega.{arith}
 use lib.ListN.{length, drop}
 use borrow.Author.Needs.{needs}
-use Rattle.strips.specs.Replay.{knownSteps}
-use Rattle.strips.specs.Laws.Steps.{known-more, known-no-more, known-end}
-use Rattle.strips.proofs.running.known_steps.Statement.{statement}
-use Rattle.strips.proofs.running.known_steps.Tie as tie
+use Rattle.replay.specs.Replay.{knownSteps}
+use Rattle.replay.specs.Laws.Steps.{known-more, known-no-more, known-end}
+use Rattle.replay.proofs.running.known_steps.Statement.{statement}
+use Rattle.replay.proofs.running.known_steps.Tie as tie
 
 abbrev Inv-loop : tie.InvT-loop
 Inv-loop plan count i₀ i = (i ≤ length plan) × (knownSteps count plan ≡ i + knownSteps count (drop i plan))

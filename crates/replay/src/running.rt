@@ -1,22 +1,22 @@
 // The replay of a leader plan and then a follower plan: questions 9 to 12, both costs and the end state.
 ghost use mathlib.Core.Path.{_≡_};
 ghost use lib.ListN.{take};
-ghost use Rattle.strips.specs.Replay.{knownSteps, returned, replayed};
-ghost use Rattle.strips.specs.Run.{Runnable, Stopped, Numbered};
-use crate::Action;
+ghost use Rattle.replay.specs.Replay.{knownSteps, returned, replayed};
+ghost use Rattle.replay.specs.Run.{Runnable, Stopped, Numbered};
 use crate::Ended;
-use crate::MAX_FOLLOWER;
-use crate::MAX_STEPS;
-use crate::Minutes;
-use crate::Price;
-use crate::Refusal;
 use crate::Replayed;
-use crate::Task;
-use crate::state::applies;
-use crate::state::holds;
-use crate::state::successor;
-use crate::validity::is_valid;
-use crate::validity::pad;
+use strips::Action;
+use strips::MAX_FOLLOWER;
+use strips::MAX_STEPS;
+use strips::Minutes;
+use strips::Price;
+use strips::Refusal;
+use strips::Task;
+use strips::applies;
+use strips::holds;
+use strips::is_valid;
+use strips::pad;
+use strips::successor;
 
 // How many steps at the front of the plan are numbers of actions.
 fn known_steps(plan: &[u8], count: usize) -> usize

@@ -3,12 +3,12 @@ use mathlib.Core.Path.{_≡_, refl, sym, ap, _∙_}
 use mathlib.Core.List.{[], _∷_}
 use Prim.Native.Nat.{ℕ, zero, suc}
 use lib.ListN.{getD}
 use Rattle.strips.specs.Refusal.{numberOf, placeOf}
-use Rattle.strips.specs.Replay.{Returned, returned}
 use Rattle.strips.specs.declared.Refusal.{Refusal}
 use Rattle.strips.specs.declared.Refusal.the-variants.{TextTooLong, LineMissing, WrongKey, Malformed, OutOfRange, NotRising, TextGoesOn, WorkspaceSize, InvalidTask, PlanTooLong, UnknownAction, NotApplicable, TooManyStates, TooManyEntries, PlansTooLong, OutputTooLong}
-use Rattle.strips.specs.declared.Replayed.{Replayed}
-use Rattle.strips.specs.declared.Replayed.the-variants.{Ran, Refused}
+use Rattle.replay.specs.Replay.{Returned, returned}
+use Rattle.replay.specs.declared.Replayed.{Replayed}
+use Rattle.replay.specs.declared.Replayed.the-variants.{Ran, Refused}
 
 -- the refusal of question n + 1 at a place
 refusalAt : ℕ → ℕ → Refusal

@@ -5,14 +5,14 @@ use Prim.Native.Nat.{ℕ, _+_, _≤_, _<_}
 use native.Mathlib.Omega.{arith}
 use lib.ListN.{length, getD, take, drop}
 use lib.Seq.{take-all}
 use Rattle.strips.specs.Limits.{maxCost}
 use Rattle.strips.specs.State.{Applies, after}
 use Rattle.strips.specs.Plan.{action, cost}
-use Rattle.strips.specs.Replay.{appliedSteps, endState}
-use Rattle.strips.specs.Run.{Running, Stopped}
-use Rattle.strips.specs.Laws.Steps.{applied-most, applied-more, applied-no-more, applied-end, end-more, cost-more}
 use Rattle.strips.specs.declared.Action.{Action}
-use Rattle.strips.specs.declared.running.Stop.{Stop}
+use Rattle.replay.specs.Replay.{appliedSteps, endState}
+use Rattle.replay.specs.Run.{Running, Stopped}
+use Rattle.replay.specs.Laws.Steps.{applied-most, applied-more, applied-no-more, applied-end, end-more, cost-more}
+use Rattle.replay.specs.declared.running.Stop.{Stop}
 
 module _ (acts : List Action) (s : ℕ) (p : List ℕ) where
   pub running-start : Running acts s p 0 s 0

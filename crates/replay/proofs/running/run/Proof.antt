@@ -1,18 +1,18 @@
--- `strips::running::run` meets its contract. The loop's invariant is `Running`.
+-- `replay::running::run` meets its contract. The loop's invariant is `Running`.
 use mathlib.Core.Path.{_≡_}
 use Prim.Native.Nat.{_-_, _≤_}
 use native.Mathlib.Omega.{arith}
 use lib.ListN.{length, getD, take}
 use borrow.Author.Needs.{needs}
 use Rattle.strips.specs.Limits.{maxCost}
 use Rattle.strips.specs.Task.{idle}
 use Rattle.strips.specs.Plan.{Known, action}
-use Rattle.strips.specs.Run.{Running}
 use Rattle.strips.specs.Laws.Decision.{granted, denied}
-use Rattle.strips.specs.Laws.Steps.{known-each, action-take}
-use Rattle.strips.specs.Laws.Running.{running-start, running-more, running-stops, running-ends}
-use Rattle.strips.proofs.running.run.Statement.{statement}
-use Rattle.strips.proofs.running.run.Tie as tie
+use Rattle.replay.specs.Run.{Running}
+use Rattle.replay.specs.Laws.Steps.{known-each, action-take}
+use Rattle.replay.specs.Laws.Running.{running-start, running-more, running-stops, running-ends}
+use Rattle.replay.proofs.running.run.Statement.{statement}
+use Rattle.replay.proofs.running.run.Tie as tie
 
 abbrev Inv-loop : tie.InvT-loop
 Inv-loop count start plan actions state₀ cost₀ i₀ state cost i = Running (take count actions) start plan i state cost

@@ -1,12 +1,13 @@
--- `strips::running::replay_known` meets its contract.
+-- `replay::running::replay_known` meets its contract.
 use native.Mathlib.Omega.{arith}
 use borrow.Author.Needs.{needs}
 use Rattle.strips.specs.Task.{leaderActions, followerActions}
-use Rattle.strips.specs.Replay.{returned}
-use Rattle.strips.specs.Run.{Stopped}
-use Rattle.strips.specs.Laws.Replay.{padded-leader, leader-runnable, follower-runnable, stops-leader, stops-follower, ends-both}
-use Rattle.strips.proofs.running.replay_known.Statement.{statement}
-use Rattle.strips.proofs.running.replay_known.Tie as tie
+use Rattle.strips.specs.Laws.Padding.{padded-leader}
+use Rattle.replay.specs.Replay.{returned}
+use Rattle.replay.specs.Run.{Stopped}
+use Rattle.replay.specs.Laws.Replay.{leader-runnable, follower-runnable, stops-leader, stops-follower, ends-both}
+use Rattle.replay.proofs.running.replay_known.Statement.{statement}
+use Rattle.replay.proofs.running.replay_known.Tie as tie
 
 pad-requires : tie.Need-pad-requires
 pad-requires c κs = search needs
