@@ -8,4 +8,5 @@ pub mod Growth
 pub mod Reachable
 pub mod Marks
 pub mod Tree
+pub mod Promotion
 pub mod Cleared

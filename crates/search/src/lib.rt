@@ -12,6 +12,7 @@ pub use table::find;
 pub use table::tabulate;
 pub use tournament::least_open;
 pub use tournament::plant;
+pub use tournament::promote;
 pub use tournament::refresh;
 
 // Places of a working slice, at most.
