@@ -1,16 +1,11 @@
-// The report of a text, in working slices, entries and a plan slice of the program's own.
-ghost use mathlib.Core.Path.{_≡_};
+// The report of a text: in lent working slices and a lent plan slice, and in those of the program's own.
 ghost use Rattle.task_format.specs.Parse.{parse};
 ghost use Rattle.front.specs.Slices.{slices};
 ghost use Rattle.report.specs.Reported.{returned};
-ghost use Rattle.file_report.specs.Answer.{blank, Entered, TaskAnswered, Answered};
-use pareto::Entry;
+ghost use Rattle.file_report.specs.Answer.{AnsweredIn, Answered};
 use report::Reported;
-use report::report;
-use strips::Answer;
+use report::print;
 use strips::MAX_FOLLOWER;
-use strips::Price;
-use strips::Task;
 use task_reader::Verdict;
 use task_reader::read;
 
@@ -21,20 +16,9 @@ const ENTRIES: usize = 128;
 
 const PLAN_NUMBERS: usize = 4_096;
 
-fn blank_entry() -> Entry
-    ensures { λ r. ⌜ r ≡ blank ⌝ }
-{
-    Entry {
-        price: Price(0),
-        answer: Answer::None,
-        leader_steps: 0,
-        follower_steps: 0,
-    }
-}
-
-// The report of a task with room for 128 entries.
-fn report_entries<'w, 'b>(
-    task: Task,
+// The report of the task that a text says, or the first question that gets no, with room for so many entries.
+pub fn answer_in<'w, 'b>(
+    text: &[u8],
     states: &'w mut [u64],
     keys: &'w mut [u64],
     links: &'w mut [usize],
@@ -45,34 +29,41 @@ fn report_entries<'w, 'b>(
     heads: &'w mut [u32],
     lists: &'b mut [[u32; MAX_FOLLOWER]],
     picked: &'w mut [usize],
+    room: usize,
     plans: &'w mut [u8],
-    text: &'w mut [u8],
+    output: &'w mut [u8],
 ) -> Reported
-    ensures { λ r. ⌜ Entered task (slices (now (states .entry)) (now (keys .entry)) (now (links .entry)) (now (tree .entry)) (now (marks .entry)) (now (values .entry)) (now (reached .entry)) (now (heads .entry)) (now (lists .entry)) (now (picked .entry))) (slices (now (states .exit)) (now (keys .exit)) (now (links .exit)) (now (tree .exit)) (now (marks .exit)) (now (values .exit)) (now (reached .exit)) (now (heads .exit)) (now (lists .exit)) (now (picked .exit))) (now (plans .entry)) (now (plans .exit)) (now (text .entry)) (now (text .exit)) (returned r) ⌝ }
+    ensures { λ r. ⌜ AnsweredIn (parse (now (text .entry))) (slices (now (states .entry)) (now (keys .entry)) (now (links .entry)) (now (tree .entry)) (now (marks .entry)) (now (values .entry)) (now (reached .entry)) (now (heads .entry)) (now (lists .entry)) (now (picked .entry))) (slices (now (states .exit)) (now (keys .exit)) (now (links .exit)) (now (tree .exit)) (now (marks .exit)) (now (values .exit)) (now (reached .exit)) (now (heads .exit)) (now (lists .exit)) (now (picked .exit))) room (now (plans .entry)) (now (plans .exit)) (now (output .entry)) (now (output .exit)) (returned r) ⌝ }
 {
-    let blank = blank_entry();
-    let mut entries = [blank; ENTRIES];
-    report(
-        task,
-        states,
-        keys,
-        links,
-        tree,
-        marks,
-        values,
-        reached,
-        heads,
-        lists,
-        picked,
-        &mut entries,
-        plans,
-        text,
-    )
+    let reading = read(text);
+    let verdict = reading.verdict;
+    match verdict {
+        Verdict::Accepted => {
+            let task = reading.task;
+            print(
+                task,
+                states,
+                keys,
+                links,
+                tree,
+                marks,
+                values,
+                reached,
+                heads,
+                lists,
+                picked,
+                room,
+                plans,
+                output,
+            )
+        }
+        Verdict::Refused(refusal) => Reported::Refused(refusal),
+    }
 }
 
-// The report of a task in 1,024 places of each working slice, with room for 4,096 plan numbers.
-fn report_task(task: Task, output: &mut [u8]) -> Reported
-    ensures { λ r. ⌜ TaskAnswered task (now (output .entry)) (now (output .exit)) (returned r) ⌝ }
+// The same with what the program lends.
+pub fn answer(text: &[u8], output: &mut [u8]) -> Reported
+    ensures { λ r. ⌜ Answered (parse (now (text .entry))) (now (output .entry)) (now (output .exit)) (returned r) ⌝ }
 {
     let mut states = [0u64; PLACES];
     let mut keys = [0u64; PLACES];
@@ -86,8 +77,8 @@ fn report_task(task: Task, output: &mut [u8]) -> Reported
     let mut lists = [row; PLACES];
     let mut picked = [0usize; PLACES];
     let mut plans = [0u8; PLAN_NUMBERS];
-    report_entries(
-        task,
+    answer_in(
+        text,
         &mut states,
         &mut keys,
         &mut links,
@@ -98,22 +89,8 @@ fn report_task(task: Task, output: &mut [u8]) -> Reported
         &mut heads,
         &mut lists,
         &mut picked,
+        ENTRIES,
         &mut plans,
         output,
     )
-}
-
-// The report of the task that a text says, or the first question that gets no.
-pub fn answer(text: &[u8], output: &mut [u8]) -> Reported
-    ensures { λ r. ⌜ Answered (parse (now (text .entry))) (now (output .entry)) (now (output .exit)) (returned r) ⌝ }
-{
-    let reading = read(text);
-    let verdict = reading.verdict;
-    match verdict {
-        Verdict::Accepted => {
-            let task = reading.task;
-            report_task(task, output)
-        }
-        Verdict::Refused(refusal) => Reported::Refused(refusal),
-    }
 }

@@ -35,8 +35,8 @@ pub record Lined (t : Task) (S K L F R rows : List ℕ) (P W : ℕ → List ℕ)
   pub front : Front t (linesOf t (answers F R) P W rows)
   pub kept : (i : ℕ) → List·Memᴰ i rows → Kept t S K L F R P W i
 
-pub record Chosen (t : Task) (S K L F R picked : List ℕ) (count : ℕ) : Type 0 where
-  pub searched : Searched t S K L F R
+pub record Chosen (t : Task) (S B K L F R picked : List ℕ) (count : ℕ) : Type 0 where
+  pub searched : Searched t S B K L F R
   pub few : count ≤ length S
   pub fitting : (i : ℕ) → List·Memᴰ i (take count picked) → Fitting K F R i
   pub leader-plans : ℕ → List ℕ

@@ -8,16 +8,18 @@ use Rattle.strips.specs.Plan.{cost}
 use Rattle.strips.specs.declared.Task.{Task}
 use Rattle.search.specs.Limits.{keyBase}
 use Rattle.search.specs.Response.{Response}
+use Rattle.reachable.specs.Hash.{Indexed}
 use Rattle.forward.specs.Chains.{Linked, Inside}
 use Rattle.backward.specs.Values.{Responses}
 use Rattle.pareto.specs.Selection.{answers}
 
--- both searches are done, and each column has a place for each row
-pub record Searched (t : Task) (S K L F R : List ℕ) : Type 0 where
+-- both searches are done, each column has a place for each row, and B has the hash table over the rows
+pub record Searched (t : Task) (S B K L F R : List ℕ) : Type 0 where
   pub responses : Responses t S F R
   pub size-k : length K ≡ length S
   pub size-l : length L ≡ length S
   pub inside : Inside L (length S)
+  pub indexed : Indexed S B
 
 -- the leader plan and the follower plan of row i are those that the columns keep
 pub record Kept (t : Task) (S K L F R : List ℕ) (P W : ℕ → List ℕ) (i : ℕ) : Type 0 where

@@ -20,6 +20,7 @@ use strips::Task;
 fn draw_lines(
     task: Task,
     states: &[u64],
+    buckets: &[usize],
     keys: &[u64],
     links: &[usize],
     values: &[u64],
@@ -31,7 +32,7 @@ fn draw_lines(
     lists: &mut [[u32; MAX_FOLLOWER]],
     plans: &mut [u8],
 ) -> Fronted
-    requires { ⌜ Chosen task (now states) (now keys) (now links) (now values) (now reached) (now picked) count × (length (now picked) ≡ length (now states))
+    requires { ⌜ Chosen task (now states) (now buckets) (now keys) (now links) (now values) (now reached) (now picked) count × (length (now picked) ≡ length (now states))
         × (length (now states) ≤ maxPlaces) × (count ≤ length (now lists)) ⌝ }
     ensures { λ r. ⌜ Drawn task room most (now (plans .entry)) (returned r) (now (plans .exit)) (now (lists .exit)) ⌝ }
 {
@@ -42,13 +43,24 @@ fn draw_lines(
     if (plans.len() as u64) < total {
         return Fronted::Refused(Refusal::PlansTooLong);
     }
-    let bytes = text_bytes(task, states, keys, links, values, reached, picked, count);
+    let bytes = text_bytes(
+        task,
+        states,
+        buckets,
+        keys,
+        links,
+        values,
+        reached,
+        picked,
+        count,
+    );
     if most < bytes {
         return Fronted::Refused(Refusal::OutputTooLong);
     }
     write_lines(
         task,
         states,
+        buckets,
         keys,
         links,
         values,
@@ -97,6 +109,7 @@ pub fn list_lines(
     draw_lines(
         task,
         states,
+        tree,
         keys,
         links,
         values,

@@ -25,6 +25,7 @@ use strips::Task;
 fn line_bytes(
     task: Task,
     states: &[u64],
+    buckets: &[usize],
     keys: &[u64],
     links: &[usize],
     values: &[u64],
@@ -32,7 +33,7 @@ fn line_bytes(
     i: usize,
     plan: &mut [u8],
 ) -> usize
-    requires { ⌜ Searched task (now states) (now keys) (now links) (now values) (now reached) × Fitting (now keys) (now values) (now reached) i × (length (now plan) ≡ maxPlaces) ⌝ }
+    requires { ⌜ Searched task (now states) (now buckets) (now keys) (now links) (now values) (now reached) × Fitting (now keys) (now values) (now reached) i × (length (now plan) ≡ maxPlaces) ⌝ }
     ensures { λ r. ⌜ (r ≤ maxLineBytes) × ((P W : ℕ → List ℕ) → Kept task (now (states .entry)) (now (keys .entry)) (now (links .entry)) (now (values .entry)) (now (reached .entry)) P W i
         → r ≡ length (lineText (lineOf task (answers (now (values .entry)) (now (reached .entry))) P W i))) ⌝ }
 {
@@ -40,7 +41,7 @@ fn line_bytes(
     write_plan(links, i, steps, plan);
     let leader = plan_bytes(&plan[..steps]);
     let answer = answer_steps(reached[i], values[i]) as usize;
-    write_response(task, states, values, reached, i, plan);
+    write_response(task, states, buckets, values, reached, i, plan);
     let follower = plan_bytes(&plan[..answer]);
     entry_bytes(line_row(keys, values, reached, i)) + leader + follower
 }
@@ -49,6 +50,7 @@ fn line_bytes(
 fn lines_bytes(
     task: Task,
     states: &[u64],
+    buckets: &[usize],
     keys: &[u64],
     links: &[usize],
     values: &[u64],
@@ -57,7 +59,7 @@ fn lines_bytes(
     count: usize,
     plan: &mut [u8],
 ) -> usize
-    requires { ⌜ Searched task (now states) (now keys) (now links) (now values) (now reached) × (count ≤ length (now picked)) × (count ≤ maxPlaces)
+    requires { ⌜ Searched task (now states) (now buckets) (now keys) (now links) (now values) (now reached) × (count ≤ length (now picked)) × (count ≤ maxPlaces)
         × ((k : ℕ) → k < count → Fitting (now keys) (now values) (now reached) (getD (now picked) k 0)) × (length (now plan) ≡ maxPlaces) ⌝ }
     ensures { λ r. ⌜ (r ≤ anyText) × ((P W : ℕ → List ℕ)
         → ((k : ℕ) → k < count → Kept task (now (states .entry)) (now (keys .entry)) (now (links .entry)) (now (values .entry)) (now (reached .entry)) P W (getD (now (picked .entry)) k 0))
@@ -67,7 +69,7 @@ fn lines_bytes(
     let mut k = 0;
     while k < count {
         let i = picked[k];
-        total += line_bytes(task, states, keys, links, values, reached, i, plan);
+        total += line_bytes(task, states, buckets, keys, links, values, reached, i, plan);
         k += 1;
     }
     total
@@ -77,6 +79,7 @@ fn lines_bytes(
 pub fn text_bytes(
     task: Task,
     states: &[u64],
+    buckets: &[usize],
     keys: &[u64],
     links: &[usize],
     values: &[u64],
@@ -84,7 +87,7 @@ pub fn text_bytes(
     picked: &[usize],
     count: usize,
 ) -> usize
-    requires { ⌜ Searched task (now states) (now keys) (now links) (now values) (now reached) × (count ≤ length (now picked)) × (count ≤ maxPlaces)
+    requires { ⌜ Searched task (now states) (now buckets) (now keys) (now links) (now values) (now reached) × (count ≤ length (now picked)) × (count ≤ maxPlaces)
         × ((k : ℕ) → k < count → Fitting (now keys) (now values) (now reached) (getD (now picked) k 0)) ⌝ }
     ensures { λ r. ⌜ (r ≤ anyText) × ((P W : ℕ → List ℕ)
         → ((k : ℕ) → k < count → Kept task (now (states .entry)) (now (keys .entry)) (now (links .entry)) (now (values .entry)) (now (reached .entry)) P W (getD (now (picked .entry)) k 0))
@@ -94,6 +97,7 @@ pub fn text_bytes(
     lines_bytes(
         task,
         states,
+        buckets,
         keys,
         links,
         values,

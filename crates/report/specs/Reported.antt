@@ -2,9 +2,10 @@
 use mathlib.Core.Path.{_≡_}
 use mathlib.Core.List.{List, _++_, map}
 use Prim.Native.Nat.{ℕ, _≤_, _<_}
-use lib.ListN.{length, drop}
+use lib.ListN.{length, drop, replicate}
 use Rattle.strips.specs.Refusal.{numberOf, placeOf}
 use Rattle.strips.specs.Task.{Valid}
+use Rattle.strips.specs.declared.Answer.the-variants.{None}
 use Rattle.strips.specs.declared.Task.{Task}
 use Rattle.search.specs.Reachable.{Fits}
 use Rattle.response.specs.Answered.{Lent, shortest}
@@ -56,3 +57,12 @@ pub data Outcome (t : Task) (places : List ℕ) (entries : List Entry) (plans te
 pub record Promised (t : Task) (w w′ : Slices) (entries entries′ : List Entry) (plans plans′ text text′ : List ℕ) (r : Returned) : Type 0 where
   pub outcome : Outcome t (sizes w) entries plans text r entries′ plans′ text′
   pub left : w′ ≡ leftIn (r .number) w
+
+-- an entry before it is written
+abbrev pub blank : Entry
+blank = record { price = record { 0 = 0 }; answer = None; «leader_steps» = 0; «follower_steps» = 0 }
+
+-- the same promise where no entries are lent: that of so many blank ones
+pub record WithRoom (t : Task) (w w′ : Slices) (room : ℕ) (plans plans′ text text′ : List ℕ) (r : Returned) : Type 0 where
+  pub entries : List Entry
+  pub promised : Promised t w w′ (replicate room blank) entries plans plans′ text text′ r

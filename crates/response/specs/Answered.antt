@@ -65,11 +65,12 @@ leftOf number held cleared = ask (Dec·and (decLe 8 number) (decLe number 12)) c
 abbrev pub leftIn : ℕ → List ℕ → List ℕ
 leftIn number places = leftOf number places (zeros places)
 
--- the whole promise: the five working slices before and after, the plan slice before and after
-pub record Promised (t : Task) (p S K L T M S′ K′ L′ T′ M′ plan plan′ : List ℕ) (r : Returned) : Type 0 where
-  pub outcome : Outcome t (length S ∷ length K ∷ length L ∷ length T ∷ length M ∷ []) p plan r plan′
+-- the whole promise: the six working slices before and after, the plan slice before and after
+pub record Promised (t : Task) (p S K L T M B S′ K′ L′ T′ M′ B′ plan plan′ : List ℕ) (r : Returned) : Type 0 where
+  pub outcome : Outcome t (length S ∷ length K ∷ length L ∷ length T ∷ length M ∷ length B ∷ []) p plan r plan′
   pub states : S′ ≡ leftIn (r .number) S
   pub keys : K′ ≡ leftIn (r .number) K
   pub links : L′ ≡ leftIn (r .number) L
   pub tree : T′ ≡ leftIn (r .number) T
   pub marks : M′ ≡ leftIn (r .number) M
+  pub buckets : B′ ≡ leftIn (r .number) B

@@ -10,6 +10,7 @@ use Rattle.strips.specs.declared.Task.{Task}
 use Rattle.search.specs.Limits.{maxPlaces, keyBase}
 use Rattle.search.specs.Reachable.{Reach}
 use Rattle.search.specs.Rows.{ReachTable}
+use Rattle.reachable.specs.Growth.{Workspace}
 use Rattle.search.specs.Cleared.{zeros}
 use Rattle.forward.specs.Chains.{Linked}
 use Rattle.forward.specs.Nearest.{Comparable}
@@ -32,33 +33,31 @@ pub data RowAnswer (K L : List ℕ) (row : ℕ) (plan : List ℕ) : Returned →
       → ((P : ℕ → List ℕ) → Linked P L → length (P row) ≡ getD K row 0 % keyBase → plan′ ≡ P row ++ drop (getD K row 0 % keyBase) plan)
       → RowAnswer K L row plan (answered (minutes (getD K row 0 / keyBase)) (getD K row 0 % keyBase)) plan′
 
--- the working slices have a place for each row, and links and marks are clear
-pub record Columns (n : ℕ) (K L T M : List ℕ) : Type 0 where
+-- the working slices have a place for each row
+pub record Columns (n : ℕ) (K L T M B : List ℕ) : Type 0 where
   pub size-k : length K ≡ n
   pub size-l : length L ≡ n
   pub size-t : length T ≡ n
   pub size-m : length M ≡ n
-  pub no-link : (i : ℕ) → getD L i 0 ≡ 0
-  pub no-mark : (i : ℕ) → getD M i 0 ≡ 0
+  pub size-b : length B ≡ n
 
 -- the table is filled, and the state asked about can be reached
-pub record Filled (t : Task) (s : ℕ) (S K L T M : List ℕ) : Type 0 where
+pub record Filled (t : Task) (s : ℕ) (S K L T M B : List ℕ) : Type 0 where
   pub valid : Valid t
   pub reach : Reach t s
   pub table : ReachTable t S
   pub small : length S ≤ maxPlaces
-  pub columns : Columns (length S) K L T M
+  pub columns : Columns (length S) K L T M B
 
 -- nothing is filled yet
-pub record Blank (t : Task) (s : ℕ) (S K L T M : List ℕ) : Type 0 where
+pub record Blank (t : Task) (s : ℕ) (S K L T M B : List ℕ) : Type 0 where
   pub valid : Valid t
   pub reach : Reach t s
-  pub some : 1 ≤ length S
-  pub small : length S ≤ maxPlaces
-  pub columns : Columns (length S) K L T M
+  pub workspace : Workspace S K L T M
+  pub size-b : length B ≡ length S
 
 -- the slices have n places at least
-pub record Roomy (t : Task) (s n : ℕ) (S K L T M : List ℕ) : Type 0 where
+pub record Roomy (t : Task) (s n : ℕ) (S K L T M B : List ℕ) : Type 0 where
   pub valid : Valid t
   pub reach : Reach t s
   pub some : 1 ≤ n
@@ -68,12 +67,7 @@ pub record Roomy (t : Task) (s n : ℕ) (S K L T M : List ℕ) : Type 0 where
   pub room-l : n ≤ length L
   pub room-t : n ≤ length T
   pub room-m : n ≤ length M
-
--- and links and marks are clear
-pub record Clean (t : Task) (s n : ℕ) (S K L T M : List ℕ) : Type 0 where
-  pub roomy : Roomy t s n S K L T M
-  pub no-link : (i : ℕ) → getD L i 0 ≡ 0
-  pub no-mark : (i : ℕ) → getD M i 0 ≡ 0
+  pub room-b : n ≤ length B
 
 pub record Wiped (S K L T M S′ K′ L′ T′ M′ : List ℕ) : Type 0 where
   pub states : S′ ≡ zeros S

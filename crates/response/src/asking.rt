@@ -1,11 +1,10 @@
 // The public call: questions 8 to 12 first, and then the answer.
 ghost use Rattle.response.specs.Answered.{returned, Promised};
 use crate::Answered;
-use crate::capacity::with_slices;
+use crate::capacity::places_lent;
 use crate::responding::respond;
 use replay::Replayed;
 use replay::replay;
-use search::MAX_PLACES;
 use strips::Refusal;
 use strips::Task;
 
@@ -18,19 +17,13 @@ pub fn best_response(
     links: &mut [usize],
     tree: &mut [usize],
     marks: &mut [u8],
+    buckets: &mut [usize],
     plan: &mut [u8],
 ) -> Answered
-    ensures { λ r. ⌜ Promised task (now («leader_plan» .entry)) (now (states .entry)) (now (keys .entry)) (now (links .entry)) (now (tree .entry)) (now (marks .entry))
-        (now (states .exit)) (now (keys .exit)) (now (links .exit)) (now (tree .exit)) (now (marks .exit)) (now (plan .entry)) (now (plan .exit)) (returned r) ⌝ }
+    ensures { λ r. ⌜ Promised task (now («leader_plan» .entry)) (now (states .entry)) (now (keys .entry)) (now (links .entry)) (now (tree .entry)) (now (marks .entry)) (now (buckets .entry))
+        (now (states .exit)) (now (keys .exit)) (now (links .exit)) (now (tree .exit)) (now (marks .exit)) (now (buckets .exit)) (now (plan .entry)) (now (plan .exit)) (returned r) ⌝ }
 {
-    let n = with_slices(
-        states.len(),
-        keys.len(),
-        links.len(),
-        tree.len(),
-        marks.len(),
-        MAX_PLACES,
-    );
+    let n = places_lent(states, keys, links, tree, marks, buckets);
     if n < 1 {
         return Answered::Refused(Refusal::WorkspaceSize);
     }
@@ -39,7 +32,18 @@ pub fn best_response(
         Replayed::Refused(refusal) => Answered::Refused(refusal),
         Replayed::Ran(end) => {
             let state = end.state;
-            respond(task, state, n, states, keys, links, tree, marks, plan)
+            respond(
+                task,
+                state,
+                n,
+                states,
+                keys,
+                links,
+                tree,
+                marks,
+                buckets,
+                plan,
+            )
         }
     }
 }

@@ -1,7 +1,8 @@
 // Question 8: the places of the shortest working slice, or 0 where a slice has too few or too many.
 // Beside no slices there are as many places as a slice may have.
-ghost use mathlib.Core.List.{List, _∷_};
+ghost use mathlib.Core.List.{List, [], _∷_};
 ghost use Prim.Native.Nat.{ℕ};
+ghost use lib.ListN.{length};
 ghost use Rattle.response.specs.Working.{Capacity};
 use search::MAX_PLACES;
 
@@ -34,4 +35,26 @@ pub fn with_slices(
     let three = with_slice(third, two);
     let four = with_slice(second, three);
     with_slice(first, four)
+}
+
+// The places of the shortest of the six working slices of the answer call.
+pub fn places_lent(
+    states: &[u64],
+    keys: &[u64],
+    links: &[usize],
+    tree: &[usize],
+    marks: &[u8],
+    buckets: &[usize],
+) -> usize
+    ensures { λ r. ⌜ Capacity (length (now (states .entry)) ∷ length (now (keys .entry)) ∷ length (now (links .entry)) ∷ length (now (tree .entry)) ∷ length (now (marks .entry)) ∷ length (now (buckets .entry)) ∷ []) r ⌝ }
+{
+    let one = with_slice(buckets.len(), MAX_PLACES);
+    with_slices(
+        states.len(),
+        keys.len(),
+        links.len(),
+        tree.len(),
+        marks.len(),
+        one,
+    )
 }

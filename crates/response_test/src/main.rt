@@ -101,11 +101,22 @@ fn respond(
     links: &mut [usize],
     tree: &mut [usize],
     marks: &mut [u8],
+    buckets: &mut [usize],
     plan: &mut [u8],
 ) {
     print(label);
     print(b":");
-    let answered = best_response(task, leader_plan, states, keys, links, tree, marks, plan);
+    let answered = best_response(
+        task,
+        leader_plan,
+        states,
+        keys,
+        links,
+        tree,
+        marks,
+        buckets,
+        plan,
+    );
     print_answered(answered);
     print_plan(plan);
     print(b" zeros");
@@ -114,6 +125,7 @@ fn respond(
     print_field(b" links", clear_rows(links) as u64);
     print_field(b" tree", clear_rows(tree) as u64);
     print_field(b" marks", clear_bytes(marks) as u64);
+    print_field(b" buckets", clear_rows(buckets) as u64);
     print(b"\n");
 }
 
@@ -124,6 +136,7 @@ fn tight(label: &[u8], task: Task, leader_plan: &[u8]) {
     let mut links = [7usize; 7];
     let mut tree = [6usize; 7];
     let mut marks = [2u8; 7];
+    let mut buckets = [5usize; 7];
     let mut plan = [99u8; 3];
     respond(
         label,
@@ -134,6 +147,7 @@ fn tight(label: &[u8], task: Task, leader_plan: &[u8]) {
         &mut links,
         &mut tree,
         &mut marks,
+        &mut buckets,
         &mut plan,
     );
 }
@@ -145,6 +159,7 @@ fn too_tight(label: &[u8], task: Task, leader_plan: &[u8]) {
     let mut links = [7usize; 9];
     let mut tree = [6usize; 6];
     let mut marks = [1u8; 7];
+    let mut buckets = [5usize; 10];
     let mut plan = [99u8; 3];
     respond(
         label,
@@ -155,6 +170,7 @@ fn too_tight(label: &[u8], task: Task, leader_plan: &[u8]) {
         &mut links,
         &mut tree,
         &mut marks,
+        &mut buckets,
         &mut plan,
     );
 }
@@ -166,6 +182,7 @@ fn no_place(label: &[u8], task: Task, leader_plan: &[u8]) {
     let mut links = [7usize; 7];
     let mut tree = [6usize; 7];
     let mut marks = [3u8; 0];
+    let mut buckets = [5usize; 7];
     let mut plan = [99u8; 3];
     respond(
         label,
@@ -176,6 +193,7 @@ fn no_place(label: &[u8], task: Task, leader_plan: &[u8]) {
         &mut links,
         &mut tree,
         &mut marks,
+        &mut buckets,
         &mut plan,
     );
 }
@@ -187,6 +205,7 @@ fn roomy(label: &[u8], task: Task, leader_plan: &[u8]) {
     let mut links = [7usize; 66];
     let mut tree = [6usize; 67];
     let mut marks = [2u8; 68];
+    let mut buckets = [5usize; 69];
     let mut plan = [99u8; 3];
     respond(
         label,
@@ -197,6 +216,7 @@ fn roomy(label: &[u8], task: Task, leader_plan: &[u8]) {
         &mut links,
         &mut tree,
         &mut marks,
+        &mut buckets,
         &mut plan,
     );
 }
@@ -208,6 +228,7 @@ fn short_plan(label: &[u8], task: Task, leader_plan: &[u8]) {
     let mut links = [7usize; 66];
     let mut tree = [6usize; 67];
     let mut marks = [2u8; 68];
+    let mut buckets = [5usize; 69];
     let mut plan = [99u8; 2];
     respond(
         label,
@@ -218,6 +239,7 @@ fn short_plan(label: &[u8], task: Task, leader_plan: &[u8]) {
         &mut links,
         &mut tree,
         &mut marks,
+        &mut buckets,
         &mut plan,
     );
 }
@@ -376,6 +398,7 @@ fn counted(label: &[u8], task: Task) {
     let mut links = [7usize; 256];
     let mut tree = [6usize; 256];
     let mut marks = [2u8; 256];
+    let mut buckets = [5usize; 256];
     let mut plan = [99u8; 255];
     let answered = best_response(
         task,
@@ -385,6 +408,7 @@ fn counted(label: &[u8], task: Task) {
         &mut links,
         &mut tree,
         &mut marks,
+        &mut buckets,
         &mut plan,
     );
     print(label);
@@ -396,9 +420,10 @@ fn counted(label: &[u8], task: Task) {
 fn one_state_more(label: &[u8], task: Task) {
     let mut states = [9u64; 256];
     let mut keys = [8u64; 256];
-    let mut links = [7usize; 255];
+    let mut links = [7usize; 256];
     let mut tree = [6usize; 256];
     let mut marks = [2u8; 256];
+    let mut buckets = [5usize; 255];
     let mut plan = [99u8; 255];
     let answered = best_response(
         task,
@@ -408,6 +433,7 @@ fn one_state_more(label: &[u8], task: Task) {
         &mut links,
         &mut tree,
         &mut marks,
+        &mut buckets,
         &mut plan,
     );
     print(label);
@@ -422,6 +448,7 @@ fn one_step_more(label: &[u8], task: Task) {
     let mut links = [7usize; 256];
     let mut tree = [6usize; 256];
     let mut marks = [2u8; 256];
+    let mut buckets = [5usize; 256];
     let mut plan = [99u8; 254];
     let answered = best_response(
         task,
@@ -431,6 +458,7 @@ fn one_step_more(label: &[u8], task: Task) {
         &mut links,
         &mut tree,
         &mut marks,
+        &mut buckets,
         &mut plan,
     );
     print(label);

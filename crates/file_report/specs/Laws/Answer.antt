@@ -1,4 +1,4 @@
--- The program's answer is determined by the text, and says the front.
+-- The answer is determined by the text and what is lent, and says the front.
 use mathlib.Core.Path.{_≡_, refl, sym, ap, _∙_}
 use mathlib.Core.Logic.{⊎-elim}
 use mathlib.Core.List.{List, _++_, map, List·Memᴰ, List·Memᴰ·not-nil, List·Memᴰ·cases-cons}
@@ -26,9 +26,9 @@ use Rattle.report_text.specs.Report.{reportText}
 use Rattle.front.specs.Slices.{Slices, slices, sizes}
 use Rattle.report.specs.declared.Reported.{Reported}
 use Rattle.report.specs.declared.Reported.the-variants.{Written, Refused as Report-Refused}
-use Rattle.report.specs.Reported.{Returned, wrote, returned, Told, too-many, no-entries, no-plans, no-text, tells, Outcome, refused-8, refused-9, tells-front}
-use Rattle.report.specs.Laws.Unique.{outcome-unique}
-use Rattle.file_report.specs.Answer.{places, room, planNumbers, blank, Entered, TaskAnswered, Answered, refuses, reports}
+use Rattle.report.specs.Reported.{Returned, wrote, returned, Told, too-many, no-entries, no-plans, no-text, tells, Outcome, refused-8, refused-9, tells-front, blank, WithRoom}
+use Rattle.report.specs.Laws.Unique.{outcome-unique, promised-unique}
+use Rattle.file_report.specs.Answer.{AnsweredIn, refuses-text, reports-task, places, room, planNumbers, Answered, refuses, reports}
 
 module _ {t : Task} {text : List ℕ} where
   -- what is written fits
@@ -77,6 +77,19 @@ answered-unique (refuses f) (reports z a) = absurd (omega arith)
 answered-unique (reports z a) (refuses f) = absurd (omega arith)
 answered-unique (reports z a) (reports y b) = let same = outcome-unique (a .outcome) (b .outcome) in (same .0, same .3)
 
+-- the same two laws in lent slices: all of these agree
+pub answered-in-unique : {read : Read} {w w₁ w₂ : Slices} {room : ℕ} {plans p q output x y : List ℕ} {r u : Returned} → AnsweredIn read w w₁ room plans p output x r → AnsweredIn read w w₂ room plans q output y u
+    → (r ≡ u) × (p ≡ q) × (x ≡ y) × (w₁ ≡ w₂)
+answered-in-unique (refuses-text f) (refuses-text g) = (refl, refl, refl, refl)
+answered-in-unique (refuses-text f) (reports-task z a) = absurd (omega arith)
+answered-in-unique (reports-task z a) (refuses-text f) = absurd (omega arith)
+answered-in-unique (reports-task z a) (reports-task y b) = let same = promised-unique (a .promised) (b .promised) in (same .0, same .2, same .3, same .4)
+
+pub answered-in-report : {read : Read} {w w′ : Slices} {room : ℕ} {plans plans′ output output′ : List ℕ} {r : Returned} → AnsweredIn read w w′ room plans plans′ output output′ r → r .number ≡ 0
+    → {lines : List Line} → Front (read .task) lines → take (r .bytes) output′ ≡ reportText lines
+answered-in-report (refuses-text f) z g = absurd (omega arith)
+answered-in-report (reports-task y a) z g = outcome-report (a .promised .outcome) z g
+
 -- question 8 gets yes
 lent-right : (k n : ℕ) → List·Memᴰ n (replicate k places) → (1 ≤ n) × (n ≤ maxPlaces)
 lent-right zero n m = absurd (List·Memᴰ·not-nil m)
@@ -110,15 +123,17 @@ lent-sizes : sizes lent ≡ replicate 10 places
 unfolding sizes
 lent-sizes = simp length-replicate
 
-pub entered-answered : {t : Task} {w′ : Slices} {plans′ output output′ : List ℕ} {r : Returned} → Entered t lent w′ (replicate planNumbers 0) plans′ output output′ r → TaskAnswered t output output′ r
-entered-answered {plans′ = plans} e = record { entries = e .entries; plans = plans; outcome = rw lent-sizes at (e .promised .outcome) }
+-- the program's answer is the answer in the slices that it lends
+pub program-answered : {read : Read} {w′ : Slices} {plans′ output output′ : List ℕ} {r : Returned} → AnsweredIn read lent w′ room (replicate planNumbers 0) plans′ output output′ r → Answered read output output′ r
+program-answered (refuses-text f) = refuses f
+program-answered {plans′ = plans} (reports-task z e) = reports z (record { entries = e .entries; plans = plans; outcome = rw lent-sizes at (e .promised .outcome) })
 
 -- what a reading says of the text
-module _ {read : Read} {output : List ℕ} {v : Verdict} (t : Task) where
-  pub accepted-answered : {output′ : List ℕ} {r : Returned} → v ≡ Accepted → reported v t ≡ read → TaskAnswered t output output′ r → Answered read output output′ r
+module _ {read : Read} {w : Slices} {room : ℕ} {plans output : List ℕ} {v : Verdict} (t : Task) where
+  pub accepted-answered : {w′ : Slices} {plans′ output′ : List ℕ} {r : Returned} → v ≡ Accepted → reported v t ≡ read → WithRoom t w w′ room plans plans′ output output′ r → AnsweredIn read w w′ room plans plans′ output output′ r
   unfolding reported
-  accepted-answered {output′} {r} e said a = rw (sym said, e) (reports {output′ = output′} {r = r} refl a)
+  accepted-answered {r = r} e said a = rw (sym said, e) (reports-task {r = r} refl a)
 
-  pub refused-answered : {q : Refusal} → v ≡ Refused q → reported v t ≡ read → Answered read output output (returned (Report-Refused q))
+  pub refused-answered : {q : Refusal} → v ≡ Refused q → reported v t ≡ read → AnsweredIn read w w room plans plans output output (returned (Report-Refused q))
   unfolding reported returned
-  refused-answered {q} e said = rw (sym said, e) (refuses (number-some q))
+  refused-answered {q} e said = rw (sym said, e) (refuses-text (number-some q))

@@ -15,9 +15,11 @@ use Rattle.strips.specs.Laws.Padding.{padded-take}
 use Rattle.strips.specs.declared.Action.{Action}
 use Rattle.strips.specs.declared.Task.{Task}
 use Rattle.search.specs.Limits.{maxPlaces}
-use Rattle.search.specs.Rows.{Row, ReachTable}
+use Rattle.search.specs.Rows.{Apart, Row, ReachTable}
 use Rattle.search.specs.Response.{Response}
+use Rattle.search.specs.Laws.Rows.{ascending-apart}
 use Rattle.search.specs.Laws.Reachable.{reach-leader}
+use Rattle.reachable.specs.Hash.{Sized}
 use Rattle.forward.specs.Columns.{Clear, Done, Settled}
 use Rattle.forward.specs.Laws.Problems.{leader-problem}
 use Rattle.backward.specs.Values.{Responses}
@@ -40,6 +42,10 @@ module _ {t : Task} {S K L T M F R heads : List ℕ} {lists : List (List ℕ)} {
 
   pub from-initial : getD S src 0 ≡ t .initial
   from-initial = row .hit source
+
+  -- there is a row, so that a hash table over the rows can be made
+  pub indexable : (B : List ℕ) → length B ≡ length S → Sized S B × Apart S (length S)
+  indexable B size = (record { some = omega (arith, source); small = tabled .small; size = size }, ascending-apart S (length S) (tabled .table .ascending))
 
   leader-taken : take (t .«leader_count») (padded (t .leader)) ≡ leaderActions t
   unfolding leaderActions

@@ -22,7 +22,7 @@ use Rattle.lines.specs.Drawing.{Drawn, no-entries, no-plans, no-text, dr
 use Rattle.lines.specs.Laws.Writing.{response-steps}
 use Rattle.lines.specs.Laws.Lines.{Measured, entries-same, plans-long}
 
-module _ {t : Task} {S K L F R picked : List ℕ} {count : ℕ} (chosen : Chosen t S K L F R picked count) (size : length picked ≡ length S) where
+module _ {t : Task} {S B K L F R picked : List ℕ} {count : ℕ} (chosen : Chosen t S B K L F R picked count) (size : length picked ≡ length S) where
   rows : List ℕ
   rows = take count picked
 

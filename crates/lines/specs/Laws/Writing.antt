@@ -18,7 +18,7 @@ use Rattle.pareto.specs.Selection.{answers}
 use Rattle.pareto.specs.Lines.{linesOf}
 use Rattle.pareto.specs.Layout.{plansFor}
 use Rattle.lines.specs.Numbers.{answerSteps, lineSteps, totalSteps}
-use Rattle.lines.specs.Writing.{Searched, Kept}
+use Rattle.lines.specs.Writing.{Kept}
 use Rattle.lines.specs.Laws.Numbers.{steps-none, steps-number, total-more}
 
 -- a plan that was written is the best response itself
@@ -123,12 +123,12 @@ module _ (t : Task) (S K L F R picked : List ℕ) (count : ℕ) where
   line-fits {k = k} w h few room =
       omega (arith, w .place, w .size, room, total-more K F R picked k (omega arith), total-most K F R picked (k + 1) count (omega arith))
 
-  pub written-more : (out out′ part : List ℕ) (at k n : ℕ) → Written out out′ at k → Searched t S K L F R → k < count → count ≤ length picked
+  pub written-more : (out out′ part : List ℕ) (at k n : ℕ) → Written out out′ at k → Responses t S F R → k < count → count ≤ length picked
       → at + lineSteps K F R (getD picked k 0) ≤ length out′ → getD picked k 0 < length S → n ≡ lineSteps K F R (getD picked k 0) → length (putMid at (length out′ - at) out′ part) ≡ length out′
       → ((P W : ℕ → List ℕ) → Kept t S K L F R P W (getD picked k 0)
       → part ≡ (P (getD picked k 0) ++ W (getD picked k 0)) ++ drop (lineSteps K F R (getD picked k 0)) (midOf at (length out′ - at) out′))
       → Written out (putMid at (length out′ - at) out′ part) (at + n) (k + 1)
-  written-more out out′ part at k n w done h few room row e same wrote = record {
+  written-more out out′ part at k n w responses h few room row e same wrote = record {
     passed = omega arith;
     place = omega (arith, w .place, total-more K F R picked k (omega arith), e);
     size = same ∙ w .size;
@@ -137,7 +137,7 @@ module _ (t : Task) (S K L F R picked : List ℕ) (count : ℕ) where
         let before = plansUpTo t (answers F R) P W picked k in
         let more = plans-more t (answers F R) P W picked k (omega arith) in
         let so-far = w .text P W kept in (
-          ap length more ∙ omega (arith, length-append before (P i ++ W i), so-far .0, kept-long t S K L F R P W (done .responses) i row (kept k h), e),
+          ap length more ∙ omega (arith, length-append before (P i ++ W i), so-far .0, kept-long t S K L F R P W responses i row (kept k h), e),
           written-behind before (P i ++ W i) out out′ part at n (so-far .0) (omega arith) (so-far .1) (drop-same (P i ++ W i) _ _ (sym e) (wrote P W (kept k h)))
               ∙ ap (λ (l : List ℕ). l ++ drop (at + n) out) (sym more),
         );

@@ -1,20 +1,24 @@
 -- The promise of the report call: what is left when the entries have been taken from their rows.
-use mathlib.Core.Path.{_≡_, refl, ap}
-use mathlib.Core.List.{List}
+use mathlib.Core.Path.{_≡_, refl, sym, ap, subst}
+use mathlib.Core.List.{List, _++_}
 use Prim.Native.Nat.{ℕ, _≤_}
 use native.Mathlib.Omega.{arith}
-use lib.ListN.{length}
+use lib.ListN.{length, take, drop, replicate, length-replicate}
+use lib.Seq.{length-take-le}
 use Rattle.strips.specs.declared.Task.{Task}
+use Rattle.search.specs.Cleared as C
+use Rattle.search.specs.Cleared.{zeroRows}
 use Rattle.pareto.specs.Front.{Line, Front}
-use Rattle.pareto.specs.Entries.{filled}
+use Rattle.pareto.specs.Entries.{filled, emptied}
+use Rattle.pareto.specs.Laws.Entries.{emptied-is}
 use Rattle.pareto.specs.declared.Entry.{Entry}
 use Rattle.report_text.specs.Rows as R
 use Rattle.lines.specs.Returned as F
-use Rattle.front.specs.Slices.{Slices, withoutRows}
 use Rattle.lines.specs.Drawing as D
+use Rattle.front.specs.Slices.{Slices, slices, withoutRows}
 use Rattle.front.specs.Listing as L
-use Rattle.front.specs.Laws.Promise.{entries-filled}
-use Rattle.report.specs.Reported.{Returned, refused, Told, too-many, no-entries, no-plans, no-text, tells, Outcome, refused-8, refused-9, tells-front, Promised}
+use Rattle.front.specs.Laws.Promise.{ready-room, entries-filled}
+use Rattle.report.specs.Reported.{Returned, refused, Told, too-many, no-entries, no-plans, no-text, tells, Outcome, refused-8, refused-9, tells-front, Promised, blank, WithRoom}
 use Rattle.report.specs.Printing.{listedOf, Printed}
 
 -- what is returned is what is returned of the front, with the bytes
@@ -50,3 +54,21 @@ module _ {t : Task} {entries : List Entry} {plans text text′ : List ℕ} (r : 
 pub printed-promised : {t : Task} {w w′ : Slices} {entries : List Entry} {plans plans′ text text′ : List ℕ} {r : Returned} → Printed t w w′ (length entries) plans plans′ text text′ r
     → Promised t w (withoutRows (r .count) w′) entries (filled entries (w′ .lists) (r .count)) plans plans′ text text′ r
 printed-promised {r = r} p = record { outcome = outcome-of r (p .refused) (p .written) (p .prepared .outcome) refl; left = p .prepared .left }
+
+-- a part that was cleared, before the rest
+pub first-cleared : (rows : List (List ℕ)) {n : ℕ} {part : List (List ℕ)} → n ≤ length rows → part ≡ zeroRows (take n rows) → part ++ drop n rows ≡ emptied rows n
+unfolding C.filled
+first-cleared rows {n} h e = rw (e, length-take-le n rows h) (sym (emptied-is rows n h))
+
+module _ {t : Task} {w w′ : Slices} {room : ℕ} {plans plans′ text text′ : List ℕ} {r : Returned} {count : ℕ} (p : Printed t w w′ room plans plans′ text text′ r) (many : count ≡ r .count) where
+  pub printed-rows : count ≤ length (w′ .lists)
+  printed-rows = rw many (ready-room (p .prepared .outcome) .1)
+
+  -- where no entries are lent, their rows are only cleared
+  pub printed-room : {rows : List (List ℕ)} → rows ≡ emptied (w′ .lists) count
+      → WithRoom t w (slices (w′ .states) (w′ .keys) (w′ .links) (w′ .tree) (w′ .marks) (w′ .values) (w′ .reached) (w′ .heads) rows (w′ .picked)) room plans plans′ text text′ r
+  unfolding withoutRows
+  printed-room e =
+      let size : room ≡ length (replicate room blank) = sym (length-replicate room blank) in
+      let q : Printed t w w′ (length (replicate room blank)) plans plans′ text text′ r = subst (λ (k : ℕ). Printed t w w′ k plans plans′ text text′ r) size p in
+      rw (e, many) (record { entries = filled (replicate room blank) (w′ .lists) (r .count); promised = printed-promised q })

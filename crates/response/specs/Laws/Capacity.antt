@@ -49,10 +49,10 @@ module _ {sizes : List ℕ} {n : ℕ} where
   capacity-some (lent each e h) l = (each, e)
   capacity-some (unlent out e) l = absurd (omega arith)
 
--- each of the five slices has room for n states
-pub capacity-room : {t : Task} {s n : ℕ} (S K L T M : List ℕ) → Valid t → Reach t s → 1 ≤ n → n ≡ shortest (length S ∷ length K ∷ length L ∷ length T ∷ length M ∷ [])
-    → Roomy t s n S K L T M
-capacity-room {n = n} S K L T M v r h e = let sizes = length S ∷ length K ∷ length L ∷ length T ∷ length M ∷ [] in record {
+-- each of the six slices has room for n states
+pub capacity-room : {t : Task} {s n : ℕ} (S K L T M B : List ℕ) → Valid t → Reach t s → 1 ≤ n → n ≡ shortest (length S ∷ length K ∷ length L ∷ length T ∷ length M ∷ length B ∷ [])
+    → Roomy t s n S K L T M B
+capacity-room {n = n} S K L T M B v r h e = let sizes = length S ∷ length K ∷ length L ∷ length T ∷ length M ∷ length B ∷ [] in record {
   valid = v;
   reach = r;
   some = h;
@@ -62,4 +62,5 @@ capacity-room {n = n} S K L T M v r h e = let sizes = length S ∷ length K ∷ 
   room-l = omega (arith, shortest-least sizes (length L) (List·Memᴰ·tail (List·Memᴰ·tail (List·Memᴰ·head refl))));
   room-t = omega (arith, shortest-least sizes (length T) (List·Memᴰ·tail (List·Memᴰ·tail (List·Memᴰ·tail (List·Memᴰ·head refl)))));
   room-m = omega (arith, shortest-least sizes (length M) (List·Memᴰ·tail (List·Memᴰ·tail (List·Memᴰ·tail (List·Memᴰ·tail (List·Memᴰ·head refl))))));
+  room-b = omega (arith, shortest-least sizes (length B) (List·Memᴰ·tail (List·Memᴰ·tail (List·Memᴰ·tail (List·Memᴰ·tail (List·Memᴰ·tail (List·Memᴰ·head refl)))))));
 }

@@ -102,12 +102,12 @@ responded-number (too-many x) h = omega (arith, h)
 responded-number (no-room f x l) h = omega (arith, h)
 responded-number (answers f x l) h = omega (arith, h)
 
-module _ (t : Task) (p S K L T M plan : List ℕ) where
+module _ (t : Task) (p S K L T M B plan : List ℕ) where
   abbrev sizes : List ℕ
-  sizes = length S ∷ length K ∷ length L ∷ length T ∷ length M ∷ []
+  sizes = length S ∷ length K ∷ length L ∷ length T ∷ length M ∷ length B ∷ []
 
   -- a refusal that leaves everything as it was
-  untouched : (n place : ℕ) → 8 ≤ n → n ≤ 12 → Outcome t sizes p plan (refused n place) plan → Promised t p S K L T M S K L T M plan plan (refused n place)
+  untouched : (n place : ℕ) → 8 ≤ n → n ≤ 12 → Outcome t sizes p plan (refused n place) plan → Promised t p S K L T M B S K L T M B plan plan (refused n place)
   untouched n place h l o = record {
     outcome = o;
     states = left-held n h l S (zeros S);
@@ -115,12 +115,13 @@ module _ (t : Task) (p S K L T M plan : List ℕ) where
     links = left-held n h l L (zeros L);
     tree = left-held n h l T (zeros T);
     marks = left-held n h l M (zeros M);
+    buckets = left-held n h l B (zeros B);
   }
 
-  pub promise-8 : (Lent sizes → ⊥) → Promised t p S K L T M S K L T M plan plan (refused 8 0)
+  pub promise-8 : (Lent sizes → ⊥) → Promised t p S K L T M B S K L T M B plan plan (refused 8 0)
   promise-8 out = untouched 8 0 (omega arith) (omega arith) (refused-8 out)
 
-  pub promise-9-to-12 : Lent sizes → (q : Refusal) → stopped (numberOf q) (placeOf q) ≡ replayed t p [] → Promised t p S K L T M S K L T M plan plan (refused (numberOf q) (placeOf q))
+  pub promise-9-to-12 : Lent sizes → (q : Refusal) → stopped (numberOf q) (placeOf q) ≡ replayed t p [] → Promised t p S K L T M B S K L T M B plan plan (refused (numberOf q) (placeOf q))
   promise-9-to-12 l q e =
       let number : numberOf q ≡ replayed t p [] .number = ap (λ r. r .number) e in
       let place : placeOf q ≡ replayed t p [] .place = ap (λ r. r .place) e in
@@ -128,14 +129,15 @@ module _ (t : Task) (p S K L T M plan : List ℕ) where
       let between = refused-between t p some in
       rw (number, place) (untouched (replayed t p [] .number) (replayed t p [] .place) (omega (arith, between .0)) (between .1) (refused-9-to-12 l (λ z. omega arith)))
 
-  pub promise-responds : {S₁ K₁ L₁ T₁ M₁ plan₁ : List ℕ} {r : Returned} → Lent sizes → replayed t p [] .number ≡ 0
-      → Responded t (endState (leaderActions t) (t .initial) p) (shortest sizes) plan r plan₁ → Wiped S K L T M S₁ K₁ L₁ T₁ M₁
-      → Promised t p S K L T M S₁ K₁ L₁ T₁ M₁ plan plan₁ r
-  promise-responds {r = r} l z x w = record {
+  pub promise-responds : {S₁ K₁ L₁ T₁ M₁ B₁ plan₁ : List ℕ} {r : Returned} → Lent sizes → replayed t p [] .number ≡ 0
+      → Responded t (endState (leaderActions t) (t .initial) p) (shortest sizes) plan r plan₁ → Wiped S K L T M S₁ K₁ L₁ T₁ M₁ → B₁ ≡ zeros B
+      → Promised t p S K L T M B S₁ K₁ L₁ T₁ M₁ B₁ plan plan₁ r
+  promise-responds {r = r} l z x w e = record {
     outcome = responds l z x;
     states = w .states ∙ left-clear (r .number) (responded-number x) S (zeros S);
     keys = w .keys ∙ left-clear (r .number) (responded-number x) K (zeros K);
     links = w .links ∙ left-clear (r .number) (responded-number x) L (zeros L);
     tree = w .tree ∙ left-clear (r .number) (responded-number x) T (zeros T);
     marks = w .marks ∙ left-clear (r .number) (responded-number x) M (zeros M);
+    buckets = e ∙ left-clear (r .number) (responded-number x) B (zeros B);
   }

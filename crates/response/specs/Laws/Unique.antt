@@ -40,10 +40,10 @@ module _ {t : Task} {sizes p plan : List ℕ} where
   outcome-unique (responds l z a) (responds k y b) = responded-unique a b
 
 -- two promises about one call agree in what is returned, in the plan slice and in every working slice
-pub promised-unique : {t : Task} {p S K L T M S₁ K₁ L₁ T₁ M₁ S₂ K₂ L₂ T₂ M₂ plan x y : List ℕ} {r u : Returned}
-    → Promised t p S K L T M S₁ K₁ L₁ T₁ M₁ plan x r → Promised t p S K L T M S₂ K₂ L₂ T₂ M₂ plan y u
-    → (r ≡ u) × (x ≡ y) × (S₁ ≡ S₂) × (K₁ ≡ K₂) × (L₁ ≡ L₂) × (T₁ ≡ T₂) × (M₁ ≡ M₂)
-promised-unique {S = S} {K = K} {L = L} {T = T} {M = M} {r = r} {u = u} a b =
+pub promised-unique : {t : Task} {p S K L T M B S₁ K₁ L₁ T₁ M₁ B₁ S₂ K₂ L₂ T₂ M₂ B₂ plan x y : List ℕ} {r u : Returned}
+    → Promised t p S K L T M B S₁ K₁ L₁ T₁ M₁ B₁ plan x r → Promised t p S K L T M B S₂ K₂ L₂ T₂ M₂ B₂ plan y u
+    → (r ≡ u) × (x ≡ y) × (S₁ ≡ S₂) × (K₁ ≡ K₂) × (L₁ ≡ L₂) × (T₁ ≡ T₂) × (M₁ ≡ M₂) × (B₁ ≡ B₂)
+promised-unique {S = S} {K = K} {L = L} {T = T} {M = M} {B = B} {r = r} {u = u} a b =
     let e = outcome-unique (a .outcome) (b .outcome) in
     let n : r .number ≡ u .number = ap (λ z. z .number) (e .0) in (
       e .0,
@@ -53,6 +53,7 @@ promised-unique {S = S} {K = K} {L = L} {T = T} {M = M} {r = r} {u = u} a b =
       a .links ∙ left n L ∙ sym (b .links),
       a .tree ∙ left n T ∙ sym (b .tree),
       a .marks ∙ left n M ∙ sym (b .marks),
+      a .buckets ∙ left n B ∙ sym (b .buckets),
     )
   where
     left : r .number ≡ u .number → (places : List ℕ) → leftIn (r .number) places ≡ leftIn (u .number) places

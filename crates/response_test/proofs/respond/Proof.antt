@@ -72,6 +72,15 @@ clear-bytes-requires c κs = search needs
 print-field-requires-5 : tie.Need-print-field-requires-5
 print-field-requires-5 c κs = search needs
 
+slice-aggregate-print-field-6 : tie.Need-slice-aggregate-print-field-6
+slice-aggregate-print-field-6 c = search needs
+
+clear-rows-requires-3 : tie.Need-clear-rows-requires-3
+clear-rows-requires-3 c κs = search needs
+
+print-field-requires-6 : tie.Need-print-field-requires-6
+print-field-requires-6 c κs = search needs
+
 slice-aggregate-print-3 : tie.Need-slice-aggregate-print-3
 slice-aggregate-print-3 c = search needs
 
@@ -79,22 +88,25 @@ print-requires-4 : tie.Need-print-requires-4
 print-requires-4 c κs = search needs
 
 same-length : tie.Need-same-length
-same-length c = c .before .before .before .before .before .before .before .before .before .before .before .before .before .before .before .before .before .before .before .before .before .before .before .before .before .before .before .before .before .before .before .before .before .before .before .before .before .before .before .best-response .kept .1 .1 .0
+same-length c = c .before .before .before .before .before .before .before .before .before .before .before .before .before .before .before .before .before .before .before .before .before .before .before .before .before .before .before .before .before .before .before .before .before .before .before .before .before .before .before .before .before .before .before .before .before .best-response .kept .1 .1 .0
 
 same-length-2 : tie.Need-same-length-2
-same-length-2 c = c .before .before .before .before .before .before .before .before .before .before .before .before .before .before .before .before .before .before .before .before .before .before .before .before .before .before .before .before .before .before .before .before .before .before .before .before .before .before .before .best-response .kept .1 .1 .1 .0
+same-length-2 c = c .before .before .before .before .before .before .before .before .before .before .before .before .before .before .before .before .before .before .before .before .before .before .before .before .before .before .before .before .before .before .before .before .before .before .before .before .before .before .before .before .before .before .before .before .before .best-response .kept .1 .1 .1 .0
 
 same-length-3 : tie.Need-same-length-3
-same-length-3 c = c .before .before .before .before .before .before .before .before .before .before .before .before .before .before .before .before .before .before .before .before .before .before .before .before .before .before .before .before .before .before .before .before .before .before .before .before .before .before .before .best-response .kept .1 .1 .1 .1 .0
+same-length-3 c = c .before .before .before .before .before .before .before .before .before .before .before .before .before .before .before .before .before .before .before .before .before .before .before .before .before .before .before .before .before .before .before .before .before .before .before .before .before .before .before .before .before .before .before .before .before .best-response .kept .1 .1 .1 .1 .0
 
 same-length-4 : tie.Need-same-length-4
-same-length-4 c = c .before .before .before .before .before .before .before .before .before .before .before .before .before .before .before .before .before .before .before .before .before .before .before .before .before .before .before .before .before .before .before .before .before .before .before .before .before .before .before .best-response .kept .1 .1 .1 .1 .1 .0
+same-length-4 c = c .before .before .before .before .before .before .before .before .before .before .before .before .before .before .before .before .before .before .before .before .before .before .before .before .before .before .before .before .before .before .before .before .before .before .before .before .before .before .before .before .before .before .before .before .before .best-response .kept .1 .1 .1 .1 .1 .0
 
 same-length-5 : tie.Need-same-length-5
-same-length-5 c = c .before .before .before .before .before .before .before .before .before .before .before .before .before .before .before .before .before .before .before .before .before .before .before .before .before .before .before .before .before .before .before .before .before .before .before .before .before .before .before .best-response .kept .1 .1 .1 .1 .1 .1 .0
+same-length-5 c = c .before .before .before .before .before .before .before .before .before .before .before .before .before .before .before .before .before .before .before .before .before .before .before .before .before .before .before .before .before .before .before .before .before .before .before .before .before .before .before .before .before .before .before .before .before .best-response .kept .1 .1 .1 .1 .1 .1 .0
 
 same-length-6 : tie.Need-same-length-6
-same-length-6 c = c .before .before .before .before .before .before .before .before .before .before .before .before .before .before .before .before .before .before .before .before .before .before .before .before .before .before .before .before .before .before .before .before .before .before .before .before .before .before .before .best-response .kept .1 .1 .1 .1 .1 .1 .1 .0
+same-length-6 c = c .before .before .before .before .before .before .before .before .before .before .before .before .before .before .before .before .before .before .before .before .before .before .before .before .before .before .before .before .before .before .before .before .before .before .before .before .before .before .before .before .before .before .before .before .before .best-response .kept .1 .1 .1 .1 .1 .1 .1 .0
+
+same-length-7 : tie.Need-same-length-7
+same-length-7 c = c .before .before .before .before .before .before .before .before .before .before .before .before .before .before .before .before .before .before .before .before .before .before .before .before .before .before .before .before .before .before .before .before .before .before .before .before .before .before .before .before .before .before .before .before .before .best-response .kept .1 .1 .1 .1 .1 .1 .1 .1 .0
 
 returns : tie.Need-returns
 returns c = search needs
@@ -126,6 +138,9 @@ respond-spec =
     slice-aggregate-print-field-5
     clear-bytes-requires
     print-field-requires-5
+    slice-aggregate-print-field-6
+    clear-rows-requires-3
+    print-field-requires-6
     slice-aggregate-print-3
     print-requires-4
     same-length
@@ -134,4 +149,5 @@ respond-spec =
     same-length-4
     same-length-5
     same-length-6
+    same-length-7
     returns)

@@ -1,38 +1,66 @@
 -- `file_report::answering::answer` meets its contract.
 use borrow.Author.Needs.{needs}
-use Rattle.file_report.specs.Laws.Answer.{accepted-answered, refused-answered}
+use Rattle.file_report.specs.Laws.Answer.{program-answered}
 use Rattle.file_report.proofs.answering.answer.Statement.{statement}
 use Rattle.file_report.proofs.answering.answer.Tie as tie
 
-read-requires : tie.Need-read-requires
-read-requires c κs = search needs
+slice-aggregate-answer-in : tie.Need-slice-aggregate-answer-in
+slice-aggregate-answer-in c = search needs
 
-enum-told : tie.Need-enum-told
-enum-told c = search needs
+slice-aggregate-answer-in-2 : tie.Need-slice-aggregate-answer-in-2
+slice-aggregate-answer-in-2 c = search needs
 
-report-task-requires : tie.Need-report-task-requires
-report-task-requires c κs = search needs
+slice-aggregate-answer-in-3 : tie.Need-slice-aggregate-answer-in-3
+slice-aggregate-answer-in-3 c = search needs
 
-enum-known-verdict : tie.Need-enum-known-verdict
-enum-known-verdict c = search needs
+slice-aggregate-answer-in-4 : tie.Need-slice-aggregate-answer-in-4
+slice-aggregate-answer-in-4 c = search needs
+
+slice-aggregate-answer-in-5 : tie.Need-slice-aggregate-answer-in-5
+slice-aggregate-answer-in-5 c = search needs
+
+slice-aggregate-answer-in-6 : tie.Need-slice-aggregate-answer-in-6
+slice-aggregate-answer-in-6 c = search needs
+
+slice-aggregate-answer-in-7 : tie.Need-slice-aggregate-answer-in-7
+slice-aggregate-answer-in-7 c = search needs
+
+slice-aggregate-answer-in-8 : tie.Need-slice-aggregate-answer-in-8
+slice-aggregate-answer-in-8 c = search needs
+
+slice-aggregate-answer-in-9 : tie.Need-slice-aggregate-answer-in-9
+slice-aggregate-answer-in-9 c = search needs
+
+slice-aggregate-answer-in-10 : tie.Need-slice-aggregate-answer-in-10
+slice-aggregate-answer-in-10 c = search needs
+
+slice-aggregate-answer-in-11 : tie.Need-slice-aggregate-answer-in-11
+slice-aggregate-answer-in-11 c = search needs
+
+answer-in-requires : tie.Need-answer-in-requires
+answer-in-requires c κs = search needs
 
 same-length : tie.Need-same-length
 same-length c = search needs
 
 returns : tie.Need-returns
-returns c = accepted-answered (c .before .before .before .before .before .before .before .read .result .task) (c .before .before .before .before .before .enum-told .given .1) (c .before .before .before .before .before .before .before .read .ensures) (c .before .before .report-task .ensures)
-
-returns-2 : tie.Need-returns-2
-returns-2 c = refused-answered (c .before .before .before .read .result .task) (c .before .verdict .given .1) (c .before .before .before .read .ensures)
+returns c = program-answered (c .before .before .before .before .before .before .before .before .before .before .before .before .before .answer-in .ensures)
 
 pub answer-spec : {M : Type 1} → statement M
 answer-spec =
     tie.close
     (tie.spec
-    read-requires
-    enum-told
-    report-task-requires
-    enum-known-verdict
+    slice-aggregate-answer-in
+    slice-aggregate-answer-in-2
+    slice-aggregate-answer-in-3
+    slice-aggregate-answer-in-4
+    slice-aggregate-answer-in-5
+    slice-aggregate-answer-in-6
+    slice-aggregate-answer-in-7
+    slice-aggregate-answer-in-8
+    slice-aggregate-answer-in-9
+    slice-aggregate-answer-in-10
+    slice-aggregate-answer-in-11
+    answer-in-requires
     same-length
-    returns
-    returns-2)
+    returns)

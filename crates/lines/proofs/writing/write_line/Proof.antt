@@ -18,7 +18,7 @@ shared-slice-read-steps c = search needs
 write-plan-requires : tie.Need-write-plan-requires
 unfolding lineSteps
 write-plan-requires c κs =
-    let start = c .before .before .before .before .before .before .before .before in
+    let start = c .before .before .before .before .before .before .before .before .before in
     (λ x. omega (arith, start .pre .0 .inside x, start .pre .0 .size-l), omega (arith, start .pre .1, start .pre .0 .size-l), omega (arith, start .pre .2))
 
 sub-write-response : tie.Need-sub-write-response
@@ -35,8 +35,8 @@ part-write-response-end c = search needs
 write-response-requires : tie.Need-write-response-requires
 unfolding lineSteps
 write-response-requires c κs =
-    let start = c .before .before .before .before .before .before .before .before .before .before .before .before in
-    (start .pre .0 .responses, start .pre .1, omega (arith, start .pre .2))
+    let start = c .before .before .before .before .before .before .before .before .before .before .before .before .before in
+    (start .pre .0 .responses, start .pre .0 .indexed, start .pre .1, omega (arith, start .pre .2))
 
 same-length : tie.Need-same-length
 same-length c = search needs
@@ -44,7 +44,7 @@ same-length c = search needs
 returns : tie.Need-returns
 unfolding lineSteps
 returns c =
-    let start = c .before .before .before .before .before .before .before .before .before .before .before .before .before .before .before in
+    let start = c .before .before .before .before .before .before .before .before .before .before .before .before .before .before .before .before in
     let led = c .before .before .before .before .before .before in
     let steps = getD (start .args .keys .now) (start .args .i) 0 % keyBase in
     λ P W kept.

@@ -14,14 +14,14 @@ shared-slice-read-if1 c = search needs
 
 returns : tie.Need-returns
 returns c =
-    let start = c .before .before .before .before .before .before in
-    λ w x. response-written [] w (start .args .plan .now) (start .args .plan .now) (start .pre .0 .unmarked (start .args .i) (start .pre .1) (c .if1 .taken)) refl x
+    let start = c .before .before .before .before .before .before .before in
+    λ w x. response-written [] w (start .args .plan .now) (start .args .plan .now) (start .pre .0 .unmarked (start .args .i) (start .pre .2) (c .if1 .taken)) refl x
 
 extract-requires : tie.Need-extract-requires
 extract-requires c κs =
-    let start = c .before .before .before .before .before .before .before in
+    let start = c .before .before .before .before .before .before .before .before in
     let marked = c .before .if1 .left in
-    (start .pre .0, start .pre .1, omega (arith, marked), omega (arith, start .pre .2, steps-number (getD (start .args .reached .now) (start .args .i) 0) (getD (start .args .values .now) (start .args .i) 0) marked))
+    (start .pre .0, start .pre .1, start .pre .2, omega (arith, marked), omega (arith, start .pre .3, steps-number (getD (start .args .reached .now) (start .args .i) 0) (getD (start .args .values .now) (start .args .i) 0) marked))
 
 same-length : tie.Need-same-length
 same-length c = search needs

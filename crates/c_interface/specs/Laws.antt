@@ -1,0 +1,2 @@
+-- What is proved about the exported calls.
+pub mod Told
