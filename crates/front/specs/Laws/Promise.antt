@@ -8,7 +8,7 @@ use lib.Seq.{length-take-le, take-at}
 use Rattle.strips.specs.Task.{Valid}
 use Rattle.strips.specs.declared.Task.{Task}
 use Rattle.search.specs.Cleared.{zeroRows}
-use Rattle.response.specs.Answered.{Lent, shortest}
+use Rattle.response.specs.Answered.{Lent}
 use Rattle.response.specs.Laws.Promise.{left-held, left-clear}
 use Rattle.pareto.specs.Front.{Line}
 use Rattle.pareto.specs.Entries.{entryOf, filled, emptied}

@@ -4,7 +4,7 @@ use mathlib.Core.List.{List}
 use Prim.Native.Nat.{ℕ, _+_, _≤_, _<_}
 use native.Mathlib.Decide.{ℕ-discrete, decLe, decLt}
 use native.Mathlib.Omega.{arith}
-use lib.ListN.{length, take, length-take}
+use lib.ListN.{length}
 use Rattle.strips.specs.Decision.{says}
 use Rattle.strips.specs.Limits.{maxSteps}
 use Rattle.strips.specs.State.{holds?}
