@@ -1,4 +1,4 @@
-"""Writes what the test program report_test reads and has to print: python3 reference/report_cases.py
+"""Writes what the test program file_report_test reads and has to print: python3 reference/report_cases.py
 
 Its input is small halls and damaged texts, and its output is what this planner prints for them; then come the two calls
 that the program makes itself.
@@ -9,7 +9,7 @@ import pathlib
 import halls
 import planner
 
-CRATE = pathlib.Path(__file__).parent.parent / "crates" / "report_test"
+CRATE = pathlib.Path(__file__).parent.parent / "crates" / "file_report_test"
 EXAMPLE = pathlib.Path(__file__).parent.parent / "examples" / "worked_hall.txt"
 SEED = 2026
 COUNT = 600

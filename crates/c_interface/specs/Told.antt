@@ -4,8 +4,8 @@ use mathlib.Core.List.{List, [], _∷_, _++_}
 use Prim.Native.Nat.{ℕ}
 use lib.ListN.{length, take, drop}
 use Rattle.task_format.specs.Parse.{Read}
-use Rattle.front.specs.Slices.{Slices}
-use Rattle.report.specs.Reported.{Returned}
+use Rattle.listing.specs.Slices.{Slices}
+use Rattle.printing.specs.Reported.{Returned}
 use Rattle.file_report.specs.Answer.{AnsweredIn}
 
 -- the first places hold the numbers, as many of them as there are places; the places beyond the numbers are as they were

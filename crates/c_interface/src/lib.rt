@@ -3,7 +3,7 @@ mod telling;
 
 ghost use mathlib.Core.Path.{_≡_};
 ghost use Rattle.task_format.specs.Parse.{parse};
-ghost use Rattle.front.specs.Slices.{slices};
+ghost use Rattle.listing.specs.Slices.{slices};
 ghost use Rattle.c_interface.specs.Told.{toldIn, readNumbers, ReportTold};
 use file_report::answer_in;
 use strips::MAX_FOLLOWER;

@@ -3,9 +3,9 @@ ghost use mathlib.Core.Path.{_≡_};
 ghost use mathlib.Core.List.{[], _∷_};
 ghost use lib.ListN.{set};
 ghost use Rattle.task_reader.specs.Reading as T;
-ghost use Rattle.report.specs.Reported.{returned};
+ghost use Rattle.printing.specs.Reported.{returned};
 ghost use Rattle.c_interface.specs.Told.{toldIn, readNumbers, reportNumbers};
-use report::Reported;
+use printing::Reported;
 use task_reader::Reading;
 use task_reader::Verdict;
 

@@ -6,8 +6,8 @@ use lib.ListN.{replicate}
 use Rattle.strips.specs.declared.Task.{Task}
 use Rattle.task_format.specs.Parse.{Read}
 use Rattle.pareto.specs.declared.Entry.{Entry}
-use Rattle.front.specs.Slices.{Slices}
-use Rattle.report.specs.Reported.{Returned, Outcome, blank, WithRoom}
+use Rattle.listing.specs.Slices.{Slices}
+use Rattle.printing.specs.Reported.{Returned, Outcome, blank, WithRoom}
 
 -- in lent slices, with room for so many entries: working slices, plan slice and output text before and after; the refusal of the text leaves them as they were
 pub data AnsweredIn (read : Read) (w : Slices) : Slices → ℕ → (plans plans′ output output′ : List ℕ) → Returned → Type 0 where

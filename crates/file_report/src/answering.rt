@@ -1,10 +1,10 @@
 // The report of a text: in lent working slices and a lent plan slice, and in those of the program's own.
 ghost use Rattle.task_format.specs.Parse.{parse};
-ghost use Rattle.front.specs.Slices.{slices};
-ghost use Rattle.report.specs.Reported.{returned};
+ghost use Rattle.listing.specs.Slices.{slices};
+ghost use Rattle.printing.specs.Reported.{returned};
 ghost use Rattle.file_report.specs.Answer.{AnsweredIn, Answered};
-use report::Reported;
-use report::print;
+use printing::Reported;
+use printing::print;
 use strips::MAX_FOLLOWER;
 use task_reader::Verdict;
 use task_reader::read;

@@ -10,8 +10,8 @@ use Rattle.response.specs.Answered.{Lent, shortest}
 use Rattle.pareto.specs.Front.{Line, Front}
 use Rattle.pareto.specs.Layout.{entryFor, plansFor}
 use Rattle.pareto.specs.declared.Entry.{Entry}
-use Rattle.lines.specs.Returned.{Returned, refused, listed}
-use Rattle.front.specs.Slices.{Slices, sizes, leftIn}
+use Rattle.pareto.specs.Returned.{Returned, refused, listed}
+use Rattle.listing.specs.Slices.{Slices, sizes, leftIn}
 
 -- questions 13 to 15 with n places for states: what is returned, and what entries and plan slice hold then
 pub data Listed (t : Task) (n : ℕ) (entries : List Entry) (plans : List ℕ) : Returned → List Entry → List ℕ → Type 0 where

@@ -1,16 +1,16 @@
-// Fronts of document 01's worked hall and of tasks with repairs, ties and a long detour, all with lent slices and entries that
-// hold other numbers before. What it prints is compared with the file stdout.
+// Fronts of document 01's worked hall and of a task with a long detour in two entries, all with lent slices and entries that
+// hold other numbers before, and what is left in every lent place. What it prints is compared with the file stdout.
 ghost use Prim.Native.Nat.{_≤_};
 use front::Fronted;
 use front::front;
 use libc::STDOUT_FILENO;
+use outcome::Answer;
+use outcome::Minutes;
+use outcome::Price;
+use outcome::Refusal;
 use pareto::Entry;
 use strips::Action;
-use strips::Answer;
 use strips::MAX_FOLLOWER;
-use strips::Minutes;
-use strips::Price;
-use strips::Refusal;
 use strips::Task;
 
 fn print(text: &[u8]) {
@@ -59,13 +59,6 @@ fn print_two(fronted: Fronted, entries: [Entry; 2]) {
     print_entry(entries[1]);
 }
 
-fn print_three(fronted: Fronted, entries: [Entry; 3]) {
-    print_fronted(fronted);
-    print_entry(entries[0]);
-    print_entry(entries[1]);
-    print_entry(entries[2]);
-}
-
 // What an entry holds before a call.
 fn other_entry() -> Entry {
     Entry {
@@ -77,7 +70,7 @@ fn other_entry() -> Entry {
 }
 
 // Prints the outcome of the call with room for two entries, and both entries.
-fn list_in_two<'w, 'b>(
+fn list_in<'w, 'b>(
     task: Task,
     states: &'w mut [u64],
     keys: &'w mut [u64],
@@ -109,90 +102,6 @@ fn list_in_two<'w, 'b>(
         plans,
     );
     print_two(fronted, entries);
-}
-
-// The same with room for three.
-fn list_in_three<'w, 'b>(
-    task: Task,
-    states: &'w mut [u64],
-    keys: &'w mut [u64],
-    links: &'w mut [usize],
-    tree: &'w mut [usize],
-    marks: &'w mut [u8],
-    values: &'w mut [u64],
-    reached: &'w mut [u8],
-    heads: &'w mut [u32],
-    lists: &'b mut [[u32; MAX_FOLLOWER]],
-    picked: &'w mut [usize],
-    plans: &'w mut [u8],
-) {
-    let other = other_entry();
-    let mut entries = [other; 3];
-    let fronted = front(
-        task,
-        states,
-        keys,
-        links,
-        tree,
-        marks,
-        values,
-        reached,
-        heads,
-        lists,
-        picked,
-        &mut entries,
-        plans,
-    );
-    print_three(fronted, entries);
-}
-
-// The call with room for two entries, or for three.
-fn list_in(
-    room: usize,
-    task: Task,
-    states: &mut [u64],
-    keys: &mut [u64],
-    links: &mut [usize],
-    tree: &mut [usize],
-    marks: &mut [u8],
-    values: &mut [u64],
-    reached: &mut [u8],
-    heads: &mut [u32],
-    lists: &mut [[u32; MAX_FOLLOWER]],
-    picked: &mut [usize],
-    plans: &mut [u8],
-) {
-    if room == 2 {
-        list_in_two(
-            task,
-            states,
-            keys,
-            links,
-            tree,
-            marks,
-            values,
-            reached,
-            heads,
-            lists,
-            picked,
-            plans,
-        );
-        return;
-    }
-    list_in_three(
-        task,
-        states,
-        keys,
-        links,
-        tree,
-        marks,
-        values,
-        reached,
-        heads,
-        lists,
-        picked,
-        plans,
-    );
 }
 
 fn print_step(step: u8) {
@@ -361,7 +270,6 @@ fn print_left(
 // One call, and what it leaves in the lent slices.
 fn list(
     label: &[u8],
-    room: usize,
     task: Task,
     states: &mut [u64],
     keys: &mut [u64],
@@ -378,7 +286,6 @@ fn list(
     print(label);
     print(b":");
     list_in(
-        room,
         task,
         states,
         keys,
@@ -407,221 +314,88 @@ fn list(
     );
 }
 
-// Slices of 7 places, which is the reach of document 01's hall, and 5 plan numbers.
-fn tight(label: &[u8], room: usize, task: Task) {
-    let mut states = [5u64; 7];
-    let mut keys = [5u64; 7];
-    let mut links = [5usize; 7];
-    let mut tree = [5usize; 7];
-    let mut marks = [5u8; 7];
-    let mut values = [5u64; 7];
-    let mut reached = [5u8; 7];
-    let mut heads = [5u32; 7];
-    let mut lists = [[5u32; MAX_FOLLOWER]; 7];
-    let mut picked = [5usize; 7];
-    let mut plans = [99u8; 5];
-    list(
-        label,
-        room,
-        task,
-        &mut states,
-        &mut keys,
-        &mut links,
-        &mut tree,
-        &mut marks,
-        &mut values,
-        &mut reached,
-        &mut heads,
-        &mut lists,
-        &mut picked,
-        &mut plans,
-    );
-}
-
-// One plan number less.
-fn short_plans(label: &[u8], room: usize, task: Task) {
-    let mut states = [5u64; 7];
-    let mut keys = [5u64; 7];
-    let mut links = [5usize; 7];
-    let mut tree = [5usize; 7];
-    let mut marks = [5u8; 7];
-    let mut values = [5u64; 7];
-    let mut reached = [5u8; 7];
-    let mut heads = [5u32; 7];
-    let mut lists = [[5u32; MAX_FOLLOWER]; 7];
-    let mut picked = [5usize; 7];
-    let mut plans = [99u8; 4];
-    list(
-        label,
-        room,
-        task,
-        &mut states,
-        &mut keys,
-        &mut links,
-        &mut tree,
-        &mut marks,
-        &mut values,
-        &mut reached,
-        &mut heads,
-        &mut lists,
-        &mut picked,
-        &mut plans,
-    );
-}
-
-// One of the slices has 6 places.
-fn too_tight(label: &[u8], room: usize, task: Task) {
+// Slices of 7 places and more, which is the reach of document 01's hall, but for one that the caller lends.
+fn tight(label: &[u8], task: Task, picked: &mut [usize], plans: &mut [u8]) {
     let mut states = [5u64; 7];
     let mut keys = [5u64; 8];
     let mut links = [5usize; 9];
     let mut tree = [5usize; 7];
-    let mut marks = [5u8; 8];
-    let mut values = [5u64; 9];
-    let mut reached = [5u8; 7];
-    let mut heads = [5u32; 8];
-    let mut lists = [[5u32; MAX_FOLLOWER]; 6];
-    let mut picked = [5usize; 7];
-    let mut plans = [99u8; 5];
-    list(
-        label,
-        room,
-        task,
-        &mut states,
-        &mut keys,
-        &mut links,
-        &mut tree,
-        &mut marks,
-        &mut values,
-        &mut reached,
-        &mut heads,
-        &mut lists,
-        &mut picked,
-        &mut plans,
-    );
-}
-
-// One of the slices has no place.
-fn no_place(label: &[u8], room: usize, task: Task) {
-    let mut states = [5u64; 7];
-    let mut keys = [5u64; 7];
-    let mut links = [5usize; 7];
-    let mut tree = [5usize; 7];
     let mut marks = [5u8; 7];
     let mut values = [5u64; 7];
     let mut reached = [5u8; 7];
-    let mut heads = [5u32; 7];
+    let mut heads = [5u32; 8];
     let mut lists = [[5u32; MAX_FOLLOWER]; 7];
+    list(
+        label,
+        task,
+        &mut states,
+        &mut keys,
+        &mut links,
+        &mut tree,
+        &mut marks,
+        &mut values,
+        &mut reached,
+        &mut heads,
+        &mut lists,
+        picked,
+        plans,
+    );
+}
+
+// As many places as the long detour has states, or more.
+fn wide(label: &[u8], task: Task, plans: &mut [u8]) {
+    let mut states = [5u64; 64];
+    let mut keys = [5u64; 65];
+    let mut links = [5usize; 66];
+    let mut tree = [5usize; 67];
+    let mut marks = [5u8; 68];
+    let mut values = [5u64; 69];
+    let mut reached = [5u8; 70];
+    let mut heads = [5u32; 71];
+    let mut lists = [[5u32; MAX_FOLLOWER]; 72];
+    let mut picked = [5usize; 73];
+    list(
+        label,
+        task,
+        &mut states,
+        &mut keys,
+        &mut links,
+        &mut tree,
+        &mut marks,
+        &mut values,
+        &mut reached,
+        &mut heads,
+        &mut lists,
+        &mut picked,
+        plans,
+    );
+}
+
+// Places for the reach, and as many plan numbers as the two lines of the hall with a free first outage have.
+fn enough(label: &[u8], task: Task) {
+    let mut picked = [5usize; 7];
+    let mut plans = [99u8; 4];
+    tight(label, task, &mut picked, &mut plans);
+}
+
+fn short_plans(label: &[u8], task: Task) {
+    let mut picked = [5usize; 7];
+    let mut plans = [99u8; 3];
+    tight(label, task, &mut picked, &mut plans);
+}
+
+// One of the slices has 6 places.
+fn too_tight(label: &[u8], task: Task) {
+    let mut picked = [5usize; 6];
+    let mut plans = [99u8; 3];
+    tight(label, task, &mut picked, &mut plans);
+}
+
+// One of the slices has no place.
+fn no_place(label: &[u8], task: Task) {
     let mut picked = [5usize; 0];
-    let mut plans = [99u8; 5];
-    list(
-        label,
-        room,
-        task,
-        &mut states,
-        &mut keys,
-        &mut links,
-        &mut tree,
-        &mut marks,
-        &mut values,
-        &mut reached,
-        &mut heads,
-        &mut lists,
-        &mut picked,
-        &mut plans,
-    );
-}
-
-// More places than most of the tasks need.
-fn roomy(label: &[u8], room: usize, task: Task) {
-    let mut states = [5u64; 22];
-    let mut keys = [5u64; 23];
-    let mut links = [5usize; 24];
-    let mut tree = [5usize; 25];
-    let mut marks = [5u8; 26];
-    let mut values = [5u64; 27];
-    let mut reached = [5u8; 28];
-    let mut heads = [5u32; 29];
-    let mut lists = [[5u32; MAX_FOLLOWER]; 30];
-    let mut picked = [5usize; 31];
-    let mut plans = [99u8; 8];
-    list(
-        label,
-        room,
-        task,
-        &mut states,
-        &mut keys,
-        &mut links,
-        &mut tree,
-        &mut marks,
-        &mut values,
-        &mut reached,
-        &mut heads,
-        &mut lists,
-        &mut picked,
-        &mut plans,
-    );
-}
-
-// As many places as the long detour has states, and as its lines have plan numbers.
-fn just_enough(label: &[u8], room: usize, task: Task) {
-    let mut states = [5u64; 96];
-    let mut keys = [5u64; 96];
-    let mut links = [5usize; 96];
-    let mut tree = [5usize; 96];
-    let mut marks = [5u8; 96];
-    let mut values = [5u64; 96];
-    let mut reached = [5u8; 96];
-    let mut heads = [5u32; 96];
-    let mut lists = [[5u32; MAX_FOLLOWER]; 96];
-    let mut picked = [5usize; 96];
-    let mut plans = [99u8; 35];
-    list(
-        label,
-        room,
-        task,
-        &mut states,
-        &mut keys,
-        &mut links,
-        &mut tree,
-        &mut marks,
-        &mut values,
-        &mut reached,
-        &mut heads,
-        &mut lists,
-        &mut picked,
-        &mut plans,
-    );
-}
-
-// One place less.
-fn one_state_more(label: &[u8], room: usize, task: Task) {
-    let mut states = [5u64; 96];
-    let mut keys = [5u64; 96];
-    let mut links = [5usize; 96];
-    let mut tree = [5usize; 96];
-    let mut marks = [5u8; 96];
-    let mut values = [5u64; 96];
-    let mut reached = [5u8; 96];
-    let mut heads = [5u32; 95];
-    let mut lists = [[5u32; MAX_FOLLOWER]; 96];
-    let mut picked = [5usize; 96];
-    let mut plans = [99u8; 35];
-    list(
-        label,
-        room,
-        task,
-        &mut states,
-        &mut keys,
-        &mut links,
-        &mut tree,
-        &mut marks,
-        &mut values,
-        &mut reached,
-        &mut heads,
-        &mut lists,
-        &mut picked,
-        &mut plans,
-    );
+    let mut plans = [99u8; 3];
+    tight(label, task, &mut picked, &mut plans);
 }
 
 fn action(cost: u32, precondition: u64, delete: u64, add: u64) -> Action {
@@ -660,21 +434,24 @@ fn worked() -> Task {
     task
 }
 
+// The hall with a first outage that costs nothing.
+fn free_outage() -> Task {
+    let mut task = worked();
+    task.leader[0] = action(0, 4, 4, 0);
+    task
+}
+
 fn floor() {
     let task = worked();
-    tight(b"the hall", 3, task);
-    tight(b"2 entries", 2, task);
-    short_plans(b"4 plan numbers", 3, task);
-    too_tight(b"6 places", 3, task);
-    no_place(b"no place", 3, task);
-    roomy(b"more places", 3, task);
-    let mut free = worked();
-    free.leader[0] = action(0, 4, 4, 0);
-    tight(b"first outage at price 0", 3, free);
-    tight(b"first outage at price 0, 2 entries", 2, free);
+    enough(b"the hall", task);
+    too_tight(b"6 places", task);
+    no_place(b"no place", task);
+    let free = free_outage();
+    enough(b"first outage at price 0", free);
+    short_plans(b"first outage at price 0, 3 plan numbers", free);
     let mut reached = worked();
     reached.goal = 0;
-    tight(b"empty goal", 3, reached);
+    enough(b"empty goal", reached);
 }
 
 // Actions are left out.
@@ -683,56 +460,21 @@ fn fewer_actions() {
     let mut calm = worked();
     calm.leader_count = 0;
     calm.leader = [idle; 16];
-    tight(b"no outages", 2, calm);
+    enough(b"no outages", calm);
     let mut stuck = worked();
     stuck.follower_count = 0;
     stuck.follower = [idle; 32];
-    tight(b"no moves", 2, stuck);
+    enough(b"no moves", stuck);
 }
 
 // Of several questions that get no, the first is named.
 fn refusals() {
-    let task = worked();
     let mut broken = worked();
     broken.facts = 0;
-    tight(b"no facts", 3, broken);
-    no_place(b"no facts, no place", 2, broken);
-    too_tight(b"no facts, 6 places, 2 entries", 2, broken);
-    too_tight(b"6 places, 2 entries", 2, task);
-    short_plans(b"2 entries, 4 plan numbers", 2, task);
-}
-
-// Three belts, a repair of all of them that costs nothing, and outages that end in the same state or in the same pair.
-fn repairs() {
-    let mut task = bare();
-    task.initial = 29;
-    task.leader_count = 6;
-    task.leader[0] = action(3, 4, 4, 0);
-    task.leader[1] = action(2, 8, 8, 0);
-    task.leader[2] = action(5, 12, 12, 0);
-    task.leader[3] = action(4, 16, 16, 0);
-    task.leader[4] = action(0, 0, 32, 28);
-    task.leader[5] = action(3, 4, 4, 32);
-    task.follower_count = 3;
-    task.follower[0] = action(1, 5, 1, 2);
-    task.follower[1] = action(4, 9, 1, 2);
-    task.follower[2] = action(4, 17, 1, 2);
-    roomy(b"repairs, fewer outages", 3, task);
-    task.leader[2] = action(6, 12, 12, 0);
-    roomy(b"repairs, smaller first outage", 3, task);
-}
-
-// A cheaper way to a state that was met before.
-fn met_before() {
-    let mut task = bare();
-    task.leader_count = 3;
-    task.leader[0] = action(9, 12, 12, 0);
-    task.leader[1] = action(3, 4, 4, 0);
-    task.leader[2] = action(3, 8, 8, 0);
-    task.follower_count = 2;
-    task.follower[0] = action(1, 5, 1, 2);
-    task.follower[1] = action(4, 9, 1, 2);
-    tight(b"met before", 3, task);
+    enough(b"no facts", broken);
+    no_place(b"no facts, no place", broken);
+    too_tight(b"no facts, 6 places", broken);
+    short_plans(b"the hall, 3 plan numbers", worked());
 }
 
 // The outage needs fact 5, which only a move gives.
@@ -743,7 +485,7 @@ fn after_a_move() {
     task.follower_count = 2;
     task.follower[0] = action(1, 5, 1, 2);
     task.follower[1] = action(0, 0, 0, 16);
-    tight(b"outage after a move", 2, task);
+    enough(b"outage after a move", task);
 }
 
 // Without the belt, fact 11, a counter of 5 bits has to go down: facts 6 to 10 are its bits, facts 1 to 5 say that a bit is not set.
@@ -752,9 +494,8 @@ fn long_detour() {
     task.facts = 11;
     task.initial = 2016;
     task.goal = 31;
-    task.leader_count = 2;
+    task.leader_count = 1;
     task.leader[0] = action(3, 1024, 1024, 0);
-    task.leader[1] = action(4, 512, 512, 0);
     task.follower_count = 6;
     task.follower[0] = action(10_000, 32, 32, 1);
     task.follower[1] = action(10_000, 65, 65, 34);
@@ -762,16 +503,19 @@ fn long_detour() {
     task.follower[3] = action(10_000, 263, 263, 232);
     task.follower[4] = action(10_000, 527, 527, 496);
     task.follower[5] = action(9, 1024, 992, 31);
-    just_enough(b"31 moves", 3, task);
-    one_state_more(b"31 moves, 95 places", 3, task);
+    let mut plans = [99u8; 33];
+    wide(b"31 moves", task, &mut plans);
+    wide(
+        b"more places, longer plans before",
+        free_outage(),
+        &mut plans,
+    );
 }
 
 fn main() {
     floor();
     fewer_actions();
     refusals();
-    repairs();
-    met_before();
     after_a_move();
     long_detour();
 }

@@ -9,7 +9,7 @@ use Rattle.pareto.specs.Entries.{entryOf}
 use Rattle.pareto.specs.Layout.{entryFor, plansFor}
 use Rattle.report_text.specs.Report.{reportText}
 use Rattle.lines.specs.Limits.{anyText}
-use Rattle.lines.specs.Returned.{Returned, refused, listed}
+use Rattle.pareto.specs.Returned.{Returned, refused, listed}
 
 -- questions 14 to 16, with room for so many entries and bytes of text: what is returned, what the plan slice holds then, and the rows of numbers that entries are made from
 pub data Drawn (t : Task) (room most : ℕ) (plans : List ℕ) : Returned → List ℕ → List (List ℕ) → Type 0 where

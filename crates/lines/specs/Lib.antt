@@ -1,6 +1,5 @@
 -- What listing the front's lines over a table promises; `Laws` has what is proved about it.
 pub mod Limits
-pub mod Returned
 pub mod Numbers
 pub mod Writing
 pub mod Choosing

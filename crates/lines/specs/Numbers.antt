@@ -2,7 +2,7 @@
 use mathlib.Core.List.{List, [], _∷_}
 use Prim.Native.Nat.{ℕ, zero, suc, _+_, _/_, _%_, _≤_, _<_}
 use lib.ListN.{length, getD, replicate}
-use Rattle.strips.specs.Limits.{maxNumber}
+use Rattle.outcome.specs.Limits.{maxNumber}
 use Rattle.search.specs.Limits.{maxPlaces, keyBase}
 
 -- the minutes and the steps of an answer, by its mark and its key; 0 where it is none

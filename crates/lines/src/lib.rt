@@ -6,10 +6,3 @@ mod sizing;
 mod writing;
 
 pub use listing::list_lines;
-use strips::Refusal;
-
-// The number of lines, or the first question that gets no.
-pub enum Fronted {
-    Lines(usize),
-    Refused(Refusal),
-}

@@ -3,17 +3,17 @@ ghost use mathlib.Core.Path.{_≡_};
 ghost use Prim.Native.Nat.{_≤_};
 ghost use lib.ListN.{length};
 ghost use Rattle.search.specs.Limits.{maxPlaces};
-ghost use Rattle.lines.specs.Returned.{returned};
+ghost use Rattle.pareto.specs.Returned.{returned};
 ghost use Rattle.lines.specs.Choosing.{Tabled, Chosen};
 ghost use Rattle.lines.specs.Drawing.{Drawn};
-use crate::Fronted;
 use crate::choosing::choose;
 use crate::numbers::fill_rows;
 use crate::numbers::total_steps;
 use crate::sizing::text_bytes;
 use crate::writing::write_lines;
+use outcome::Refusal;
+use pareto::Fronted;
 use strips::MAX_FOLLOWER;
-use strips::Refusal;
 use strips::Task;
 
 // The lines of the rows that were chosen, with room for so many entries and bytes of text. The numbers of the entries are left in lists.

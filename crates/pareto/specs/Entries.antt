@@ -3,8 +3,8 @@ use mathlib.Core.List.{List, []}
 use Prim.Native.Nat.{ℕ, zero, suc}
 use lib.ListN.{getD, set, replicate}
 use Rattle.strips.specs.Limits.{maxFollower}
-use Rattle.strips.specs.declared.Answer.{Answer}
-use Rattle.strips.specs.declared.Answer.the-variants.{Cost, None}
+use Rattle.outcome.specs.declared.Answer.{Answer}
+use Rattle.outcome.specs.declared.Answer.the-variants.{Cost, None}
 use Rattle.pareto.specs.declared.Entry.{Entry}
 
 -- the mark 0 stands for none

@@ -4,7 +4,7 @@ use mathlib.Core.List.{List, [], _∷_, List·Memᴰ}
 use Prim.Native.Nat.{ℕ, _≤_, _<_}
 use Rattle.strips.specs.Task.{leaderActions}
 use Rattle.strips.specs.Plan.{Runs, cost, Least}
-use Rattle.strips.specs.Answer.{Value, minutes, none}
+use Rattle.outcome.specs.Answer.{Value, minutes, none}
 use Rattle.strips.specs.declared.Task.{Task}
 use Rattle.search.specs.Response.{Response}
 

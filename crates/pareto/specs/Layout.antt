@@ -2,9 +2,9 @@
 use mathlib.Core.List.{List, [], _∷_, _++_}
 use Prim.Native.Nat.{ℕ}
 use lib.ListN.{length}
-use Rattle.strips.specs.Answer.{Value, minutes, none}
-use Rattle.strips.specs.declared.Answer.{Answer}
-use Rattle.strips.specs.declared.Answer.the-variants.{Cost, None}
+use Rattle.outcome.specs.Answer.{Value, minutes, none}
+use Rattle.outcome.specs.declared.Answer.{Answer}
+use Rattle.outcome.specs.declared.Answer.the-variants.{Cost, None}
 use Rattle.pareto.specs.Front.{Line}
 use Rattle.pareto.specs.declared.Entry.{Entry}
 

@@ -2,6 +2,7 @@
 pub mod Front
 pub mod Entries
 pub mod Layout
+pub mod Returned
 pub mod Selection
 pub mod Lines
 pub mod Laws

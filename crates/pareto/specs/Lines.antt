@@ -5,7 +5,7 @@ use Prim.Native.Nat.{ℕ, _<_}
 use lib.ListN.{length, getD}
 use Rattle.strips.specs.Task.{leaderActions}
 use Rattle.strips.specs.Plan.{cost}
-use Rattle.strips.specs.Answer.{Value}
+use Rattle.outcome.specs.Answer.{Value}
 use Rattle.strips.specs.declared.Task.{Task}
 use Rattle.search.specs.Response.{Response}
 use Rattle.search.specs.Rows.{Among}

@@ -6,7 +6,7 @@ use mathlib.Core.List.{List, [], _∷_}
 use Prim.Native.Nat.{ℕ, zero, suc, _/_, _≤_, _<_}
 use lib.ListN.{length, getD}
 use Rattle.strips.specs.Plan.{AtMost, cost}
-use Rattle.strips.specs.Answer.{Value, minutes, none}
+use Rattle.outcome.specs.Answer.{Value, minutes, none}
 use Rattle.strips.specs.declared.Action.{Action}
 use Rattle.search.specs.Limits.{keyBase}
 use Rattle.forward.specs.Chains.{Linked, Inside}

@@ -5,10 +5,10 @@ ghost use lib.ListN.{length, set, replicate};
 ghost use Rattle.strips.specs.Limits.{maxFollower};
 ghost use Rattle.pareto.specs.Entries.{answerOf, entryOf, entryAt, filled, emptied};
 use crate::Entry;
-use strips::Answer;
+use outcome::Answer;
+use outcome::Minutes;
+use outcome::Price;
 use strips::MAX_FOLLOWER;
-use strips::Minutes;
-use strips::Price;
 
 // The answer of a mark and a number of minutes: none where the mark is 0.
 fn answer_of(mark: u32, minutes: u32) -> Answer

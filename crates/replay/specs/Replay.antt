@@ -9,7 +9,7 @@ use Rattle.strips.specs.Limits.{maxSteps}
 use Rattle.strips.specs.State.{holds?, applies?, after}
 use Rattle.strips.specs.Task.{leaderActions, followerActions}
 use Rattle.strips.specs.Plan.{known?, action, cost}
-use Rattle.strips.specs.Refusal.{numberOf, placeOf}
+use Rattle.outcome.specs.Refusal.{numberOf, placeOf}
 use Rattle.strips.specs.Laws.Validity.{valid?}
 use Rattle.strips.specs.declared.Action.{Action}
 use Rattle.strips.specs.declared.Task.{Task}

@@ -1,10 +1,10 @@
 // The replay of a leader plan and then a follower plan.
 mod running;
 
+use outcome::Minutes;
+use outcome::Price;
+use outcome::Refusal;
 pub use running::replay;
-use strips::Minutes;
-use strips::Price;
-use strips::Refusal;
 
 // A leader plan and then a follower plan, run from the initial state.
 pub struct Ended {

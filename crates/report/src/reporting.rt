@@ -1,11 +1,11 @@
 // The report call: the lines are listed and printed, and their entries are taken from the rows of numbers.
-ghost use Rattle.front.specs.Slices.{slices};
-ghost use Rattle.report.specs.Reported.{returned, Promised};
-use crate::Reported;
-use crate::printing::line_count;
-use crate::printing::list_report;
+ghost use Rattle.listing.specs.Slices.{slices};
+ghost use Rattle.printing.specs.Reported.{returned, Promised};
 use pareto::Entry;
 use pareto::take_entries;
+use printing::Reported;
+use printing::line_count;
+use printing::list_report;
 use strips::MAX_FOLLOWER;
 use strips::Task;
 

@@ -1,88 +1,306 @@
-// Halls and damaged texts from another planner, parted by "%" on standard input: prints what the report program prints for
-// each, so that the file stdout has that planner's outputs. Then document 01's hall with an output that is just long enough,
-// and with one byte less.
-ghost use Prim.Native.Nat.{_≤_};
-ghost use lib.ListN.{length};
-use file_report::answer;
-use libc::STDIN_FILENO;
+// Reports of document 01's worked hall and of tasks with repairs, ties and a cheaper way, in entries, plan slices and texts that
+// are just long enough, longer or too short. Every lent place holds something else before. What it prints is compared with the
+// file stdout.
 use libc::STDOUT_FILENO;
+use outcome::Answer;
+use outcome::Minutes;
+use outcome::Price;
+use outcome::Refusal;
+use pareto::Entry;
 use report::Reported;
-use strips::Refusal;
-
-const INPUT_BYTES: usize = 262_144;
-
-const OUTPUT_BYTES: usize = 8_192;
+use report::report;
+use strips::Action;
+use strips::MAX_FOLLOWER;
+use strips::Task;
 
 fn print(text: &[u8]) {
     io::write_all(STDOUT_FILENO, text);
 }
 
-fn print_line(key: &[u8], number: u64) {
-    print(key);
+fn print_field(name: &[u8], number: u64) {
+    print(name);
+    print(b"=");
     io::print_decimal(STDOUT_FILENO, number);
-    print(b"\n");
+}
+
+fn print_answer(answer: Answer) {
+    match answer {
+        Answer::Cost(minutes) => print_field(b" answer", minutes.0 as u64),
+        Answer::None => print(b" answer=none"),
+    }
 }
 
 fn print_refusal(refusal: Refusal) {
-    print_line(b"refused=", refusal.number() as u64);
-    print_line(b"line=", refusal.place() as u64);
+    print_field(b" refused", refusal.number() as u64);
+    print_field(b" place", refusal.place() as u64);
 }
 
-fn print_first(text: &[u8], n: usize) {
-    if n <= text.len() {
-        print(&text[..n]);
-    }
+fn print_written(entries: usize, bytes: usize) {
+    print_field(b" entries", entries as u64);
+    print_field(b" bytes", bytes as u64);
 }
 
-// The report of a text's front in the lent output, or the refusal.
-fn print_answer(text: &[u8], output: &mut [u8]) {
-    let reported = answer(text, output);
+fn print_reported(reported: Reported) {
     match reported {
-        Reported::Written(_, bytes) => print_first(output, bytes),
+        Reported::Written(entries, bytes) => print_written(entries, bytes),
         Reported::Refused(refusal) => print_refusal(refusal),
     }
-}
-
-// Where the text that starts at `from` ends.
-fn text_end(input: &[u8], from: usize) -> usize
-    requires { ⌜ from ≤ length (now input) ⌝ }
-    ensures { λ r. ⌜ (from ≤ r) × (r ≤ length (now (input .entry))) ⌝ }
-{
-    let mut i = from;
-    while i < input.len() {
-        if input[i] == b'%' {
-            return i;
-        }
-        i += 1;
-    }
-    i
-}
-
-fn print_answers(input: &[u8], output: &mut [u8]) {
-    let mut start = 0;
-    while start < input.len() {
-        let end = text_end(input, start);
-        print_answer(&input[start..end], output);
-        start = end + 1;
-    }
-}
-
-// An output that holds other bytes before; it is printed whole afterwards.
-fn print_lent(text: &[u8], output: &mut [u8]) {
-    print_answer(text, output);
-    print(output);
     print(b"\n");
 }
 
+fn print_entry(entry: Entry) {
+    let price = entry.price;
+    let answer = entry.answer;
+    print_field(b"  price", price.0 as u64);
+    print_answer(answer);
+    print_field(b" outages", entry.leader_steps as u64);
+    print_field(b" moves", entry.follower_steps as u64);
+    print(b"\n");
+}
+
+fn print_three(reported: Reported, entries: [Entry; 3]) {
+    print_reported(reported);
+    print_entry(entries[0]);
+    print_entry(entries[1]);
+    print_entry(entries[2]);
+}
+
+fn print_step(step: u8) {
+    print(b",");
+    io::print_decimal(STDOUT_FILENO, step as u64);
+}
+
+fn print_plans(plans: &[u8]) {
+    print(b"  plans");
+    let mut i = 0;
+    while i < plans.len() {
+        print_step(plans[i]);
+        i += 1;
+    }
+    print(b"\n");
+}
+
+// What an entry holds before a call.
+fn other_entry() -> Entry {
+    Entry {
+        price: Price(77),
+        answer: Answer::Cost(Minutes(66)),
+        leader_steps: 55,
+        follower_steps: 44,
+    }
+}
+
+// Prints the outcome of the call with room for three entries, and the entries.
+fn report_in<'w, 'b>(
+    task: Task,
+    states: &'w mut [u64],
+    keys: &'w mut [u64],
+    links: &'w mut [usize],
+    tree: &'w mut [usize],
+    marks: &'w mut [u8],
+    values: &'w mut [u64],
+    reached: &'w mut [u8],
+    heads: &'w mut [u32],
+    lists: &'b mut [[u32; MAX_FOLLOWER]],
+    picked: &'w mut [usize],
+    plans: &'w mut [u8],
+    text: &'w mut [u8],
+) {
+    let other = other_entry();
+    let mut entries = [other; 3];
+    let reported = report(
+        task,
+        states,
+        keys,
+        links,
+        tree,
+        marks,
+        values,
+        reached,
+        heads,
+        lists,
+        picked,
+        &mut entries,
+        plans,
+        text,
+    );
+    print_three(reported, entries);
+}
+
+// One call, and what it leaves in plan slice and text.
+fn lend(label: &[u8], task: Task, plans: &mut [u8], text: &mut [u8]) {
+    let mut states = [5u64; 22];
+    let mut keys = [5u64; 23];
+    let mut links = [5usize; 24];
+    let mut tree = [5usize; 25];
+    let mut marks = [5u8; 26];
+    let mut values = [5u64; 27];
+    let mut reached = [5u8; 28];
+    let mut heads = [5u32; 29];
+    let mut lists = [[5u32; MAX_FOLLOWER]; 30];
+    let mut picked = [5usize; 31];
+    print(label);
+    print(b":");
+    report_in(
+        task,
+        &mut states,
+        &mut keys,
+        &mut links,
+        &mut tree,
+        &mut marks,
+        &mut values,
+        &mut reached,
+        &mut heads,
+        &mut lists,
+        &mut picked,
+        plans,
+        text,
+    );
+    print_plans(plans);
+    print(text);
+    print(b"\n");
+}
+
+// As many plan numbers and bytes as the report of document 01's hall has.
+fn just_enough(label: &[u8], task: Task) {
+    let mut plans = [99u8; 5];
+    let mut text = [b'.'; 118];
+    lend(label, task, &mut plans, &mut text);
+}
+
+fn short_plans(label: &[u8], task: Task) {
+    let mut plans = [99u8; 4];
+    let mut text = [b'.'; 118];
+    lend(label, task, &mut plans, &mut text);
+}
+
+fn short_text(label: &[u8], task: Task) {
+    let mut plans = [99u8; 5];
+    let mut text = [b'.'; 117];
+    lend(label, task, &mut plans, &mut text);
+}
+
+fn short_both(label: &[u8], task: Task) {
+    let mut plans = [99u8; 4];
+    let mut text = [b'.'; 117];
+    lend(label, task, &mut plans, &mut text);
+}
+
+fn roomy(label: &[u8], task: Task) {
+    let mut plans = [99u8; 8];
+    let mut text = [b'.'; 160];
+    lend(label, task, &mut plans, &mut text);
+}
+
+fn action(cost: u32, precondition: u64, delete: u64, add: u64) -> Action {
+    Action {
+        cost,
+        precondition,
+        delete,
+        add,
+    }
+}
+
+// A task with facts 1 to 6 and no actions; fact 2 is the goal.
+fn bare() -> Task {
+    let idle = action(0, 0, 0, 0);
+    Task {
+        facts: 6,
+        initial: 13,
+        goal: 2,
+        leader_count: 0,
+        follower_count: 0,
+        leader: [idle; 16],
+        follower: [idle; 32],
+    }
+}
+
+// Document 01's hall: 1 tray in the house, 2 tray at the dock, 3 upper belt runs, 4 lower belt runs.
+fn worked() -> Task {
+    let mut task = bare();
+    task.facts = 4;
+    task.leader_count = 2;
+    task.follower_count = 2;
+    task.leader[0] = action(2, 4, 4, 0);
+    task.leader[1] = action(5, 8, 8, 0);
+    task.follower[0] = action(3, 5, 1, 2);
+    task.follower[1] = action(7, 9, 1, 2);
+    task
+}
+
+fn floor() {
+    let task = worked();
+    just_enough(b"the hall", task);
+    short_plans(b"4 plan numbers", task);
+    short_text(b"117 bytes", task);
+    short_both(b"4 plan numbers, 117 bytes", task);
+    roomy(b"more of both", task);
+}
+
+// Fewer lines than there are entries.
+fn fewer_lines() {
+    let idle = action(0, 0, 0, 0);
+    let mut free = worked();
+    free.leader[0] = action(0, 4, 4, 0);
+    roomy(b"first outage at price 0", free);
+    let mut calm = worked();
+    calm.leader_count = 0;
+    calm.leader = [idle; 16];
+    roomy(b"no outages", calm);
+    let mut reached = worked();
+    reached.goal = 0;
+    roomy(b"empty goal", reached);
+    let mut stuck = worked();
+    stuck.follower_count = 0;
+    stuck.follower = [idle; 32];
+    roomy(b"no moves", stuck);
+}
+
+fn no_facts() {
+    let mut broken = worked();
+    broken.facts = 0;
+    short_both(b"no facts, 4 plan numbers, 117 bytes", broken);
+}
+
+// Three belts, a repair of all of them that costs nothing, and outages that end in the same state or in the same pair.
+fn repairs() {
+    let mut task = bare();
+    task.initial = 29;
+    task.leader_count = 6;
+    task.leader[0] = action(3, 4, 4, 0);
+    task.leader[1] = action(2, 8, 8, 0);
+    task.leader[2] = action(5, 12, 12, 0);
+    task.leader[3] = action(4, 16, 16, 0);
+    task.leader[4] = action(0, 0, 32, 28);
+    task.leader[5] = action(3, 4, 4, 32);
+    task.follower_count = 3;
+    task.follower[0] = action(1, 5, 1, 2);
+    task.follower[1] = action(4, 9, 1, 2);
+    task.follower[2] = action(4, 17, 1, 2);
+    roomy(b"repairs, fewer outages", task);
+    task.leader[2] = action(6, 12, 12, 0);
+    roomy(b"repairs, smaller first outage", task);
+    task.follower[2] = action(9, 17, 1, 2);
+    roomy(b"4 lines", task);
+}
+
+// A cheaper way to a state that was met before.
+fn met_before() {
+    let mut task = bare();
+    task.leader_count = 3;
+    task.leader[0] = action(9, 12, 12, 0);
+    task.leader[1] = action(3, 4, 4, 0);
+    task.leader[2] = action(3, 8, 8, 0);
+    task.follower_count = 2;
+    task.follower[0] = action(1, 5, 1, 2);
+    task.follower[1] = action(4, 9, 1, 2);
+    just_enough(b"met before", task);
+}
+
 fn main() {
-    let mut input = [0u8; INPUT_BYTES];
-    let n = io::read_full(STDIN_FILENO, &mut input);
-    let mut output = [0u8; OUTPUT_BYTES];
-    print_answers(&input[..n], &mut output);
-    let hall =
-        b"facts=4\nstart=1,3,4\ngoal=2\noutages=2\nmoves=2\ncost=2\nneeds=3\ndrops=3\ngives=\ncost=5\nneeds=4\ndrops=4\ngives=\ncost=3\nneeds=1,3\ndrops=1\ngives=2\ncost=7\nneeds=1,4\ndrops=1\ngives=2\n";
-    let mut enough = [b'.'; 118];
-    print_lent(hall, &mut enough);
-    let mut short = [b'.'; 117];
-    print_lent(hall, &mut short);
+    floor();
+    fewer_lines();
+    no_facts();
+    repairs();
+    met_before();
 }

@@ -2,7 +2,7 @@
 use mathlib.Core.List.{List, [], _∷_, _++_}
 use Prim.Native.Nat.{ℕ, suc}
 use lib.ListN.{length}
-use Rattle.strips.specs.Answer.{Value, minutes, none}
+use Rattle.outcome.specs.Answer.{Value, minutes, none}
 use Rattle.task_format.specs.Text.{newline, comma}
 use Rattle.task_format.specs.Lines.{outagesKey, movesKey}
 use Rattle.task_format.specs.Render.{digitsOf}

@@ -3,7 +3,7 @@ use mathlib.Core.Path.{_≡_}
 use mathlib.Core.List.{List, [], _∷_, _++_, map}
 use Prim.Native.Nat.{ℕ, _+_, _≤_}
 use lib.ListN.{length, getD, take, drop}
-use Rattle.strips.specs.Answer.{Value, valueOf}
+use Rattle.outcome.specs.Answer.{Value, valueOf}
 use Rattle.search.specs.Limits.{maxPlaces}
 use Rattle.pareto.specs.Front.{Line}
 use Rattle.pareto.specs.Entries.{answerOf, entryOf}

@@ -7,8 +7,8 @@ use native.Mathlib.Decide.{decLe}
 use lib.ListN.{length, drop}
 use Rattle.strips.specs.Decision.{ask}
 use Rattle.strips.specs.Task.{leaderActions}
-use Rattle.strips.specs.Answer.{Value, minutes, valueOf}
-use Rattle.strips.specs.Refusal.{numberOf, placeOf}
+use Rattle.outcome.specs.Answer.{Value, minutes, valueOf}
+use Rattle.outcome.specs.Refusal.{numberOf, placeOf}
 use Rattle.strips.specs.declared.Task.{Task}
 use Rattle.replay.specs.Replay.{endState, replayed}
 use Rattle.search.specs.Limits.{maxPlaces}

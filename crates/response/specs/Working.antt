@@ -3,9 +3,9 @@ use mathlib.Core.Path.{_≡_}
 use mathlib.Core.List.{List, _++_}
 use Prim.Native.Nat.{ℕ, _/_, _%_, _≤_, _<_}
 use lib.ListN.{length, getD, drop}
-use Rattle.strips.specs.Limits.{maxNumber}
+use Rattle.outcome.specs.Limits.{maxNumber}
 use Rattle.strips.specs.Task.{Valid}
-use Rattle.strips.specs.Answer.{minutes, none}
+use Rattle.outcome.specs.Answer.{minutes, none}
 use Rattle.strips.specs.declared.Task.{Task}
 use Rattle.search.specs.Limits.{maxPlaces, keyBase}
 use Rattle.search.specs.Reachable.{Reach}

@@ -3,9 +3,9 @@ ghost use Rattle.response.specs.Answered.{returned, Promised};
 use crate::Answered;
 use crate::capacity::places_lent;
 use crate::responding::respond;
+use outcome::Refusal;
 use replay::Replayed;
 use replay::replay;
-use strips::Refusal;
 use strips::Task;
 
 // The best response to a leader plan. The plan's steps stand at the front of the plan slice.

@@ -5,9 +5,9 @@ mod responding;
 
 pub use asking::best_response;
 pub use capacity::with_slices;
+use outcome::Answer;
+use outcome::Refusal;
 pub use responding::wipe;
-use strips::Answer;
-use strips::Refusal;
 
 // The answer and the number of steps of its plan, or the first question that gets no.
 pub enum Answered {

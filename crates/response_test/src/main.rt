@@ -2,11 +2,11 @@
 // numbers before. What it prints is compared with the file stdout.
 ghost use Prim.Native.Nat.{_≤_};
 use libc::STDOUT_FILENO;
+use outcome::Answer;
+use outcome::Refusal;
 use response::Answered;
 use response::best_response;
 use strips::Action;
-use strips::Answer;
-use strips::Refusal;
 use strips::Task;
 
 fn print(text: &[u8]) {
@@ -129,14 +129,13 @@ fn respond(
     print(b"\n");
 }
 
-// Slices of 7 places, which is document 01's reach, and 3 for the plan.
-fn tight(label: &[u8], task: Task, leader_plan: &[u8]) {
+// Slices of 7 places and more, which is document 01's reach, but for one that the caller lends, and 3 places for the plan.
+fn lend(label: &[u8], task: Task, leader_plan: &[u8], buckets: &mut [usize]) {
     let mut states = [9u64; 7];
-    let mut keys = [8u64; 7];
-    let mut links = [7usize; 7];
+    let mut keys = [8u64; 8];
+    let mut links = [7usize; 9];
     let mut tree = [6usize; 7];
     let mut marks = [2u8; 7];
-    let mut buckets = [5usize; 7];
     let mut plan = [99u8; 3];
     respond(
         label,
@@ -147,66 +146,36 @@ fn tight(label: &[u8], task: Task, leader_plan: &[u8]) {
         &mut links,
         &mut tree,
         &mut marks,
-        &mut buckets,
+        buckets,
         &mut plan,
     );
+}
+
+fn tight(label: &[u8], task: Task, leader_plan: &[u8]) {
+    let mut buckets = [5usize; 7];
+    lend(label, task, leader_plan, &mut buckets);
 }
 
 // One of the slices has 6 places.
 fn too_tight(label: &[u8], task: Task, leader_plan: &[u8]) {
-    let mut states = [9u64; 7];
-    let mut keys = [8u64; 8];
-    let mut links = [7usize; 9];
-    let mut tree = [6usize; 6];
-    let mut marks = [1u8; 7];
-    let mut buckets = [5usize; 10];
-    let mut plan = [99u8; 3];
-    respond(
-        label,
-        task,
-        leader_plan,
-        &mut states,
-        &mut keys,
-        &mut links,
-        &mut tree,
-        &mut marks,
-        &mut buckets,
-        &mut plan,
-    );
+    let mut buckets = [5usize; 6];
+    lend(label, task, leader_plan, &mut buckets);
 }
 
 // One of the slices has no place.
 fn no_place(label: &[u8], task: Task, leader_plan: &[u8]) {
-    let mut states = [9u64; 7];
-    let mut keys = [8u64; 7];
-    let mut links = [7usize; 7];
-    let mut tree = [6usize; 7];
-    let mut marks = [3u8; 0];
-    let mut buckets = [5usize; 7];
-    let mut plan = [99u8; 3];
-    respond(
-        label,
-        task,
-        leader_plan,
-        &mut states,
-        &mut keys,
-        &mut links,
-        &mut tree,
-        &mut marks,
-        &mut buckets,
-        &mut plan,
-    );
+    let mut buckets = [5usize; 0];
+    lend(label, task, leader_plan, &mut buckets);
 }
 
-// More places than any of the tasks needs, and 3 for the plan.
-fn roomy(label: &[u8], task: Task, leader_plan: &[u8]) {
+// More places than most of the tasks need.
+fn lend_more(label: &[u8], task: Task, leader_plan: &[u8], plan: &mut [u8]) {
     let mut states = [9u64; 64];
     let mut keys = [8u64; 65];
     let mut links = [7usize; 66];
     let mut tree = [6usize; 67];
     let mut marks = [2u8; 68];
     let mut buckets = [5usize; 69];
-    let mut plan = [99u8; 3];
     respond(
         label,
         task,
@@ -217,31 +186,19 @@ fn roomy(label: &[u8], task: Task, leader_plan: &[u8]) {
         &mut tree,
         &mut marks,
         &mut buckets,
-        &mut plan,
+        plan,
     );
+}
+
+fn roomy(label: &[u8], task: Task, leader_plan: &[u8]) {
+    let mut plan = [99u8; 3];
+    lend_more(label, task, leader_plan, &mut plan);
 }
 
 // The same with one place less for the plan.
 fn short_plan(label: &[u8], task: Task, leader_plan: &[u8]) {
-    let mut states = [9u64; 64];
-    let mut keys = [8u64; 65];
-    let mut links = [7usize; 66];
-    let mut tree = [6usize; 67];
-    let mut marks = [2u8; 68];
-    let mut buckets = [5usize; 69];
     let mut plan = [99u8; 2];
-    respond(
-        label,
-        task,
-        leader_plan,
-        &mut states,
-        &mut keys,
-        &mut links,
-        &mut tree,
-        &mut marks,
-        &mut buckets,
-        &mut plan,
-    );
+    lend_more(label, task, leader_plan, &mut plan);
 }
 
 fn action(cost: u32, precondition: u64, delete: u64, add: u64) -> Action {
@@ -391,15 +348,13 @@ fn counter() -> Task {
     task
 }
 
-// As many places as the counter has states, and as its plan has steps.
-fn counted(label: &[u8], task: Task) {
+// As many places as the counter has states, but for a slice and a plan that the caller lends.
+fn count_down(label: &[u8], task: Task, buckets: &mut [usize], plan: &mut [u8]) {
     let mut states = [9u64; 256];
     let mut keys = [8u64; 256];
     let mut links = [7usize; 256];
     let mut tree = [6usize; 256];
     let mut marks = [2u8; 256];
-    let mut buckets = [5usize; 256];
-    let mut plan = [99u8; 255];
     let answered = best_response(
         task,
         &[],
@@ -408,58 +363,8 @@ fn counted(label: &[u8], task: Task) {
         &mut links,
         &mut tree,
         &mut marks,
-        &mut buckets,
-        &mut plan,
-    );
-    print(label);
-    print(b":");
-    print_answered(answered);
-    print(b"\n");
-}
-
-fn one_state_more(label: &[u8], task: Task) {
-    let mut states = [9u64; 256];
-    let mut keys = [8u64; 256];
-    let mut links = [7usize; 256];
-    let mut tree = [6usize; 256];
-    let mut marks = [2u8; 256];
-    let mut buckets = [5usize; 255];
-    let mut plan = [99u8; 255];
-    let answered = best_response(
-        task,
-        &[],
-        &mut states,
-        &mut keys,
-        &mut links,
-        &mut tree,
-        &mut marks,
-        &mut buckets,
-        &mut plan,
-    );
-    print(label);
-    print(b":");
-    print_answered(answered);
-    print(b"\n");
-}
-
-fn one_step_more(label: &[u8], task: Task) {
-    let mut states = [9u64; 256];
-    let mut keys = [8u64; 256];
-    let mut links = [7usize; 256];
-    let mut tree = [6usize; 256];
-    let mut marks = [2u8; 256];
-    let mut buckets = [5usize; 256];
-    let mut plan = [99u8; 254];
-    let answered = best_response(
-        task,
-        &[],
-        &mut states,
-        &mut keys,
-        &mut links,
-        &mut tree,
-        &mut marks,
-        &mut buckets,
-        &mut plan,
+        buckets,
+        plan,
     );
     print(label);
     print(b":");
@@ -469,9 +374,13 @@ fn one_step_more(label: &[u8], task: Task) {
 
 fn long_way() {
     let task = counter();
-    counted(b"255 steps", task);
-    one_state_more(b"255 steps, 255 places", task);
-    one_step_more(b"255 steps, plan of 254", task);
+    let mut buckets = [5usize; 256];
+    let mut plan = [99u8; 255];
+    count_down(b"255 steps", task, &mut buckets, &mut plan);
+    let mut fewer = [5usize; 255];
+    count_down(b"255 steps, 255 places", task, &mut fewer, &mut plan);
+    let mut short = [99u8; 254];
+    count_down(b"255 steps, plan of 254", task, &mut buckets, &mut short);
 }
 
 fn main() {

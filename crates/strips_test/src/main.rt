@@ -1,10 +1,10 @@
 // Replays on document 01's worked hall and on records that break a rule, and the smaller of two plans.
 // What it prints is compared with the file stdout.
 use libc::STDOUT_FILENO;
+use outcome::Refusal;
 use replay::Ended;
 use replay::Replayed;
 use strips::Action;
-use strips::Refusal;
 use strips::Task;
 
 fn print(text: &[u8]) {
@@ -40,6 +40,19 @@ fn replay(label: &[u8], task: Task, leader_plan: &[u8], follower_plan: &[u8]) {
     }
 }
 
+fn outages(label: &[u8], task: Task, plan: &[u8]) {
+    replay(label, task, plan, &[]);
+}
+
+fn moves(label: &[u8], task: Task, plan: &[u8]) {
+    replay(label, task, &[], plan);
+}
+
+// No plan at all: what is asked of the record.
+fn judge(label: &[u8], task: Task) {
+    replay(label, task, &[], &[]);
+}
+
 fn action(cost: u32, precondition: u64, delete: u64, add: u64) -> Action {
     Action {
         cost,
@@ -71,25 +84,25 @@ fn worked() -> Task {
 
 fn plans() {
     let task = worked();
-    replay(b"nothing", task, &[], &[]);
-    replay(b"move 1", task, &[], &[1]);
+    judge(b"nothing", task);
+    moves(b"move 1", task, &[1]);
     replay(b"outage 1, move 2", task, &[1], &[2]);
-    replay(b"outages 1 2", task, &[1, 2], &[]);
-    replay(b"outages 2 1", task, &[2, 1], &[]);
-    replay(b"moves 1 1", task, &[], &[1, 1]);
-    replay(b"outages 1 1", task, &[1, 1], &[]);
+    outages(b"outages 1 2", task, &[1, 2]);
+    outages(b"outages 2 1", task, &[2, 1]);
+    moves(b"moves 1 1", task, &[1, 1]);
+    outages(b"outages 1 1", task, &[1, 1]);
     replay(b"outage 1, move 1", task, &[1], &[1]);
     replay(b"outages 1 2, moves 2", task, &[1, 2], &[2]);
 }
 
 fn numbers() {
     let task = worked();
-    replay(b"outage 0", task, &[0], &[]);
-    replay(b"outage 3", task, &[1, 3], &[]);
+    outages(b"outage 0", task, &[0]);
+    outages(b"outage 3", task, &[1, 3]);
     replay(b"move 0", task, &[1], &[2, 0]);
     replay(b"move 33", task, &[1, 2], &[33]);
-    replay(b"move 255", task, &[], &[255]);
-    replay(b"moves 1 1 9", task, &[], &[1, 1, 9]);
+    moves(b"move 255", task, &[255]);
+    moves(b"moves 1 1 9", task, &[1, 1, 9]);
     replay(b"outages 1 1, move 9", task, &[1, 1], &[9]);
 }
 
@@ -105,10 +118,10 @@ fn lengths() {
     let task = patient();
     let longest = [1u8; 32767];
     let too_long = [1u8; 32768];
-    replay(b"longest outages", task, &longest, &[]);
-    replay(b"longest moves", task, &[], &longest);
-    replay(b"outages too long", task, &too_long, &[]);
-    replay(b"moves too long", task, &[], &too_long);
+    outages(b"longest outages", task, &longest);
+    moves(b"longest moves", task, &longest);
+    outages(b"outages too long", task, &too_long);
+    moves(b"moves too long", task, &too_long);
     replay(b"too long, and no action", task, &too_long, &[9]);
 }
 
@@ -116,62 +129,62 @@ fn lengths() {
 fn overlap() {
     let mut task = worked();
     task.follower[0] = action(1, 0, 3, 2);
-    replay(b"delete and add of one fact", task, &[], &[1]);
+    moves(b"delete and add of one fact", task, &[1]);
     task.facts = 64;
     task.goal = 9_223_372_036_854_775_808;
     task.follower[1] = action(10_000, 0, 13, 9_223_372_036_854_775_808);
-    replay(b"fact 64", task, &[], &[2]);
+    moves(b"fact 64", task, &[2]);
 }
 
 fn invalid_sizes() {
     let mut task = worked();
     task.facts = 0;
-    replay(b"no facts", task, &[], &[]);
+    judge(b"no facts", task);
     task.facts = 65;
-    replay(b"65 facts", task, &[], &[]);
+    judge(b"65 facts", task);
     task = worked();
     task.leader_count = 17;
-    replay(b"17 outages", task, &[], &[]);
+    judge(b"17 outages", task);
     task = worked();
     task.follower_count = 33;
-    replay(b"33 moves", task, &[], &[]);
+    judge(b"33 moves", task);
 }
 
 fn invalid_sets() {
     let mut task = worked();
     task.initial = 16;
-    replay(b"start fact 5 of 4", task, &[], &[]);
+    judge(b"start fact 5 of 4", task);
     task = worked();
     task.goal = 16;
-    replay(b"goal fact 5 of 4", task, &[], &[]);
+    judge(b"goal fact 5 of 4", task);
     task = worked();
     task.leader[1] = action(5, 16, 0, 0);
-    replay(b"needs fact 5 of 4", task, &[], &[]);
+    judge(b"needs fact 5 of 4", task);
     task.leader[1] = action(5, 0, 16, 0);
-    replay(b"drops fact 5 of 4", task, &[], &[]);
+    judge(b"drops fact 5 of 4", task);
     task.leader[1] = action(5, 0, 0, 16);
-    replay(b"gives fact 5 of 4", task, &[], &[]);
+    judge(b"gives fact 5 of 4", task);
     task = worked();
     task.follower[1] = action(7, 0, 0, 16);
-    replay(b"move gives fact 5 of 4", task, &[], &[]);
+    judge(b"move gives fact 5 of 4", task);
 }
 
 fn invalid_places() {
     let mut task = worked();
     task.leader[0] = action(10_001, 4, 4, 0);
-    replay(b"price 10001", task, &[], &[]);
+    judge(b"price 10001", task);
     task = worked();
     task.follower[0] = action(10_001, 5, 1, 2);
-    replay(b"minutes 10001", task, &[], &[]);
+    judge(b"minutes 10001", task);
     task = worked();
     task.leader[2] = action(1, 0, 0, 0);
-    replay(b"unused outage with a price", task, &[], &[]);
+    judge(b"unused outage with a price", task);
     task = worked();
     task.leader[15] = action(0, 0, 0, 1);
-    replay(b"unused outage that gives", task, &[], &[]);
+    judge(b"unused outage that gives", task);
     task = worked();
     task.follower[31] = action(0, 1, 0, 0);
-    replay(b"unused move that needs", task, &[], &[]);
+    judge(b"unused move that needs", task);
     task.follower[31] = action(0, 0, 1, 0);
     replay(b"unused move that drops, and no action", task, &[9], &[9]);
 }

@@ -3,8 +3,8 @@
 // limit of question 1, the longest file, and what the writer refuses.
 ghost use Prim.Native.Nat.{_≤_};
 ghost use lib.ListN.{length};
+use outcome::Refusal;
 use strips::Action;
-use strips::Refusal;
 use strips::Task;
 use task_format::MAX_TEXT;
 use task_reader::Verdict;

@@ -2,8 +2,8 @@
 use mathlib.Core.Bool.{Bool, true, false}
 use mathlib.Core.List.{List, [], _∷_}
 use Prim.Native.Nat.{ℕ}
-use Rattle.strips.specs.Refusal.{numberOf, placeOf}
-use Rattle.strips.specs.declared.Refusal.the-variants.{TextGoesOn}
+use Rattle.outcome.specs.Refusal.{numberOf, placeOf}
+use Rattle.outcome.specs.declared.Refusal.the-variants.{TextGoesOn}
 use Rattle.strips.specs.declared.Task.{Task}
 use Rattle.task_format.specs.Parse.{Read, refused, accepted}
 use Rattle.task_reader.specs.declared.Verdict.{Verdict}

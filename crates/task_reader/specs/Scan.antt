@@ -3,7 +3,7 @@ use mathlib.Core.Path.{_≡_}
 use mathlib.Core.Bool.{true, false}
 use mathlib.Core.List.{List, [], _∷_, map}
 use Prim.Native.Nat.{ℕ, _+_, _-_, _*_, _^_, _≤_, _<_}
-use Rattle.strips.specs.declared.Refusal.{Refusal}
+use Rattle.outcome.specs.declared.Refusal.{Refusal}
 use Rattle.task_format.specs.Limits.{maxDigits}
 use Rattle.task_format.specs.Text.{zeroDigit, parts}
 use Rattle.task_format.specs.Value.{All, IsDigit, IsNumber, decimalFrom, decimal, RisesFrom, Rises, Between, InForm, setOf, content}

@@ -5,12 +5,12 @@ mod line;
 mod values;
 
 ghost use mathlib.Core.Path.{_≡_};
-ghost use Rattle.strips.specs.Refusal.{numberOf, placeOf};
+ghost use Rattle.outcome.specs.Refusal.{numberOf, placeOf};
 ghost use Rattle.task_format.specs.Parse.{refused, parse};
 ghost use Rattle.task_reader.specs.Reading.{returned};
 use fields::zeros;
 use line::read_lines;
-use strips::Refusal;
+use outcome::Refusal;
 use strips::Task;
 use task_format::MAX_TEXT;
 

@@ -14,7 +14,7 @@ use crate::keys::key_length;
 use crate::values::begin;
 use crate::values::finish;
 use crate::values::step;
-use strips::Refusal;
+use outcome::Refusal;
 use task_format::kind_of;
 use task_format::last_line;
 

@@ -7,7 +7,7 @@ ghost use Rattle.task_format.specs.Text.{comma};
 ghost use Rattle.strips.specs.Limits.{maxFacts};
 ghost use Rattle.task_reader.specs.Scan.{begun, broken, longer, Good, Stepped, Closed, Finished, refusedValue, takenValue};
 use crate::Verdict;
-use strips::Refusal;
+use outcome::Refusal;
 use task_format::Kind;
 use task_format::MAX_DIGITS;
 

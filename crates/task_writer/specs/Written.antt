@@ -4,7 +4,7 @@ use mathlib.Core.List.{List, _++_}
 use Prim.Native.Nat.{ℕ}
 use lib.ListN.{length, drop}
 use Rattle.strips.specs.Decision.{ask}
-use Rattle.strips.specs.Refusal.{numberOf, placeOf}
+use Rattle.outcome.specs.Refusal.{numberOf, placeOf}
 use Rattle.strips.specs.Laws.Validity.{valid?}
 use Rattle.strips.specs.declared.Task.{Task}
 use Rattle.task_format.specs.Render.{render}

@@ -7,7 +7,7 @@ mod numbers;
 ghost use Rattle.strips.specs.Task.{Valid};
 ghost use Rattle.task_writer.specs.Written.{Wrote, WroteValid};
 use lines::put_lines;
-use strips::Refusal;
+use outcome::Refusal;
 use strips::Task;
 use strips::is_valid;
 use task_format::MAX_TEXT;

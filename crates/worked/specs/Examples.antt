@@ -10,7 +10,7 @@ use Rattle.strips.specs.Task.{idle, leaderActions}
 use Rattle.strips.specs.Plan.{cost}
 use Rattle.strips.specs.Laws.Validity.{valid?}
 use Rattle.strips.specs.Limits.{maxLeader, maxFollower}
-use Rattle.strips.specs.Answer.{Value, minutes, none}
+use Rattle.outcome.specs.Answer.{Value, minutes, none}
 use Rattle.strips.specs.declared.Action.{Action}
 use Rattle.strips.specs.declared.Task.{Task}
 use Rattle.replay.specs.Replay.{replayed}

@@ -1,6 +1,6 @@
 -- `c_interface::faldwern_report` meets its contract.
 use borrow.Author.Needs.{needs}
-use Rattle.report.specs.Reported.{returned}
+use Rattle.printing.specs.Reported.{returned}
 use Rattle.c_interface.proofs.faldwern_report.Statement.{statement}
 use Rattle.c_interface.proofs.faldwern_report.Tie as tie
 

@@ -4,17 +4,17 @@ use mathlib.Core.List.{List, [], _∷_}
 use Prim.Native.Nat.{ℕ}
 use lib.ListN.{length, set}
 use lib.Seq.{take-nil}
-use Rattle.strips.specs.Refusal.{numberOf, placeOf}
-use Rattle.strips.specs.declared.Refusal.{Refusal}
+use Rattle.outcome.specs.Refusal.{numberOf, placeOf}
+use Rattle.outcome.specs.declared.Refusal.{Refusal}
 use Rattle.strips.specs.declared.Task.{Task}
 use Rattle.task_format.specs.Parse.{Read}
 use Rattle.task_reader.specs.declared.Verdict.{Verdict}
 use Rattle.task_reader.specs.declared.Verdict.the-variants.{Accepted, Refused}
 use Rattle.task_reader.specs.Reading.{reported}
-use Rattle.front.specs.Slices.{Slices}
-use Rattle.report.specs.declared.Reported.{Reported}
-use Rattle.report.specs.declared.Reported.the-variants.{Written, Refused as Report-Refused}
-use Rattle.report.specs.Reported.{Returned, returned}
+use Rattle.listing.specs.Slices.{Slices}
+use Rattle.printing.specs.declared.Reported.{Reported}
+use Rattle.printing.specs.declared.Reported.the-variants.{Written, Refused as Report-Refused}
+use Rattle.printing.specs.Reported.{Returned, returned}
 use Rattle.file_report.specs.Laws.Answer.{answered-in-unique}
 use Rattle.c_interface.specs.Told.{toldIn, readNumbers, reportNumbers, ReportTold}
 

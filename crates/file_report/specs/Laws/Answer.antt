@@ -7,7 +7,7 @@ use native.Mathlib.Omega.{arith}
 use lib.ListN.{length, take, drop, replicate, length-replicate}
 use lib.Seq.{take-at}
 use Rattle.strips.specs.Limits.{maxFollower}
-use Rattle.strips.specs.declared.Refusal.{Refusal}
+use Rattle.outcome.specs.declared.Refusal.{Refusal}
 use Rattle.strips.specs.declared.Task.{Task}
 use Rattle.task_format.specs.Parse.{Read, accepted, parse}
 use Rattle.round_trip.specs.Theorems.{read-valid}
@@ -23,11 +23,11 @@ use Rattle.pareto.specs.Layout.{entryFor, plansFor}
 use Rattle.pareto.specs.Laws.Unique.{front-unique}
 use Rattle.pareto.specs.declared.Entry.{Entry}
 use Rattle.report_text.specs.Report.{reportText}
-use Rattle.front.specs.Slices.{Slices, slices, sizes}
-use Rattle.report.specs.declared.Reported.{Reported}
-use Rattle.report.specs.declared.Reported.the-variants.{Written, Refused as Report-Refused}
-use Rattle.report.specs.Reported.{Returned, wrote, returned, Told, too-many, no-entries, no-plans, no-text, tells, Outcome, refused-8, refused-9, tells-front, blank, WithRoom}
-use Rattle.report.specs.Laws.Unique.{outcome-unique, promised-unique}
+use Rattle.listing.specs.Slices.{Slices, slices, sizes}
+use Rattle.printing.specs.declared.Reported.{Reported}
+use Rattle.printing.specs.declared.Reported.the-variants.{Written, Refused as Report-Refused}
+use Rattle.printing.specs.Reported.{Returned, wrote, returned, Told, too-many, no-entries, no-plans, no-text, tells, Outcome, refused-8, refused-9, tells-front, blank, WithRoom}
+use Rattle.printing.specs.Laws.Unique.{outcome-unique, promised-unique}
 use Rattle.file_report.specs.Answer.{AnsweredIn, refuses-text, reports-task, places, room, planNumbers, Answered, refuses, reports}
 
 module _ {t : Task} {text : List ℕ} where

@@ -8,9 +8,9 @@ use Rattle.strips.specs.declared.Task.{Task}
 use Rattle.pareto.specs.Laws.Unique.{front-unique}
 use Rattle.pareto.specs.declared.Entry.{Entry}
 use Rattle.pareto.specs.Layout.{plansFor}
-use Rattle.lines.specs.Returned.{Returned}
+use Rattle.pareto.specs.Returned.{Returned}
 use Rattle.front.specs.Fronted.{Listed, too-many, no-entries, no-plans, lists, Outcome, refused-8, refused-9, lists-front, Promised}
-use Rattle.front.specs.Slices.{Slices, leftIn}
+use Rattle.listing.specs.Slices.{Slices, leftIn}
 
 module _ {t : Task} {n : ℕ} {entries : List Entry} {plans : List ℕ} where
   pub listed-unique : {r u : Returned} {e f : List Entry} {x y : List ℕ} → Listed t n entries plans r e x → Listed t n entries plans u f y → (r ≡ u) × (e ≡ f) × (x ≡ y)

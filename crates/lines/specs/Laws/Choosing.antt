@@ -7,10 +7,10 @@ use native.Mathlib.Decide.{decLe, decLt}
 use native.Mathlib.Nat.{eq-or-lt-of-le}
 use native.Mathlib.Omega.{arith}
 use lib.ListN.{length, getD, take}
-use Rattle.strips.specs.Limits.{maxNumber}
+use Rattle.outcome.specs.Limits.{maxNumber}
 use Rattle.strips.specs.Task.{padded, leaderActions}
 use Rattle.strips.specs.Plan.{done}
-use Rattle.strips.specs.Answer.{minutes}
+use Rattle.outcome.specs.Answer.{minutes}
 use Rattle.strips.specs.Laws.Padding.{padded-take}
 use Rattle.strips.specs.declared.Action.{Action}
 use Rattle.strips.specs.declared.Task.{Task}

@@ -14,7 +14,7 @@ use Rattle.pareto.specs.Entries.{entryOf}
 use Rattle.pareto.specs.Layout.{entryFor, plansFor}
 use Rattle.report_text.specs.Report.{reportText}
 use Rattle.lines.specs.Limits.{anyText}
-use Rattle.lines.specs.Returned.{Returned, refused, listed}
+use Rattle.pareto.specs.Returned.{Returned, refused, listed}
 use Rattle.lines.specs.Numbers.{totalSteps, lineRow, Fitting}
 use Rattle.lines.specs.Writing.{Kept}
 use Rattle.lines.specs.Choosing.{Chosen}

@@ -9,7 +9,7 @@ use native.Mathlib.Omega.{arith}
 use lib.ListN.{length, getD, take, drop, length-append, length-drop, take-append-drop}
 use lib.Seq.{take-suc, drop-drop, take-at, drop-at, take-take, take-all, drop-length}
 use borrow.Rule.Slice.PartMut.{midOf, putMid, post-is}
-use Rattle.strips.specs.Answer.{Value}
+use Rattle.outcome.specs.Answer.{Value}
 use Rattle.strips.specs.declared.Task.{Task}
 use Rattle.search.specs.Response.{Response}
 use Rattle.search.specs.Laws.Response.{response-unique}

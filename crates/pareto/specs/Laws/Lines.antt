@@ -7,7 +7,7 @@ use native.Mathlib.Omega.{arith}
 use lib.ListN.{length, getD}
 use Rattle.strips.specs.Task.{leaderActions}
 use Rattle.strips.specs.Plan.{Runs, AtMost, cheaper, cost}
-use Rattle.strips.specs.Answer.{Value}
+use Rattle.outcome.specs.Answer.{Value}
 use Rattle.strips.specs.Laws.Order.{at-most-trans, at-most-cost}
 use Rattle.strips.specs.declared.Task.{Task}
 use Rattle.search.specs.Response.{Response}

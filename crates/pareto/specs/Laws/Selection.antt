@@ -14,7 +14,7 @@ use lib.ListN.{length, getD, set, take, drop}
 use lib.Seq.{take-suc-set, drop-set-lt, drop-drop}
 use Rattle.strips.specs.Decision.{says}
 use Rattle.strips.specs.Plan.{cost}
-use Rattle.strips.specs.Answer.{Value, minutes, none}
+use Rattle.outcome.specs.Answer.{Value, minutes, none}
 use Rattle.strips.specs.Laws.Decision.{says-yes, says-no}
 use Rattle.strips.specs.Laws.Order.{at-most-refl, at-most-trans}
 use Rattle.strips.specs.declared.Action.{Action}

@@ -6,7 +6,7 @@ use Prim.Native.Nat.{ℕ, _<_}
 use native.Mathlib.Omega.{arith}
 use Rattle.strips.specs.Task.{leaderActions}
 use Rattle.strips.specs.Plan.{done, cost}
-use Rattle.strips.specs.Answer.{Value}
+use Rattle.outcome.specs.Answer.{Value}
 use Rattle.strips.specs.Laws.Order.{least-unique}
 use Rattle.strips.specs.declared.Task.{Task}
 use Rattle.replay.specs.Laws.Steps.{runs-end}

@@ -4,7 +4,7 @@ use mathlib.Core.Logic.{_⊎_, inl, inr}
 use Prim.Native.Nat.{ℕ, _≤_, _<_}
 use native.Mathlib.Decide.{ℕ-discrete}
 use native.Mathlib.Omega.{arith}
-use Rattle.strips.specs.Answer.{Value, minutes, none}
+use Rattle.outcome.specs.Answer.{Value, minutes, none}
 use Rattle.strips.specs.Laws.Order.{trichotomy}
 use Rattle.pareto.specs.Front.{UpTo, number-up-to, up-to-none, Below, number-below, below-none}
 use Rattle.pareto.specs.Selection.{Exceeds}

@@ -4,7 +4,7 @@ use mathlib.Core.List.{List, [], _∷_, _++_, append-assoc, head-eq-of-cons-eq, 
 use Prim.Native.Nat.{ℕ, _<_}
 use native.Mathlib.Omega.{arith}
 use lib.ListN.{length, length-append}
-use Rattle.strips.specs.Answer.{Value, minutes, none}
+use Rattle.outcome.specs.Answer.{Value, minutes, none}
 use Rattle.task_format.specs.Text.{newline, comma, zeroDigit}
 use Rattle.task_format.specs.Lines.{outagesKey, movesKey}
 use Rattle.task_format.specs.Value.{All, IsDigit}

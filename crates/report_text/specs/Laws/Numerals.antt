@@ -5,7 +5,7 @@ use Prim.Native.Nat.{ℕ, zero, suc, _+_, _-_, _/_, _%_, _^_, _≤_, _<_}
 use native.Mathlib.Omega.{arith}
 use native.Mathlib.Nat.{pow-suc}
 use lib.ListN.{length}
-use Rattle.strips.specs.Limits.{maxNumber}
+use Rattle.outcome.specs.Limits.{maxNumber}
 use Rattle.task_format.specs.Text.{zeroDigit}
 use Rattle.task_format.specs.Value.{All, IsDigit, decimal}
 use Rattle.task_format.specs.Render.{digitsOf}

@@ -6,7 +6,7 @@ use native.Mathlib.Omega.{arith}
 use native.Mathlib.Numerals.{add-one}
 use lib.ListN.{length, getD, drop, length-append, drop-of-length-le}
 use lib.Seq.{drop-cons}
-use Rattle.strips.specs.Answer.{Value, minutes, none, valueOf}
+use Rattle.outcome.specs.Answer.{Value, minutes, none, valueOf}
 use Rattle.task_format.specs.Text.{newline, comma}
 use Rattle.task_format.specs.Lines.{outagesKey, movesKey}
 use Rattle.pareto.specs.Front.{Line}

@@ -11,12 +11,12 @@ use Rattle.strips.specs.Limits.{maxSteps}
 use Rattle.strips.specs.State.{holds?}
 use Rattle.strips.specs.Task.{leaderActions, followerActions}
 use Rattle.strips.specs.Plan.{cost}
-use Rattle.strips.specs.Refusal.{numberOf, placeOf}
+use Rattle.outcome.specs.Refusal.{numberOf, placeOf}
 use Rattle.strips.specs.Laws.Decision.{asked-yes, asked-no}
 use Rattle.strips.specs.Laws.Validity.{valid?}
 use Rattle.strips.specs.declared.Task.{Task}
-use Rattle.strips.specs.declared.Refusal.{Refusal}
-use Rattle.strips.specs.declared.Refusal.the-variants.{TextTooLong, LineMissing, WrongKey, Malformed, OutOfRange, NotRising, TextGoesOn, WorkspaceSize, InvalidTask, PlanTooLong, UnknownAction, NotApplicable, TooManyStates, TooManyEntries, PlansTooLong, OutputTooLong}
+use Rattle.outcome.specs.declared.Refusal.{Refusal}
+use Rattle.outcome.specs.declared.Refusal.the-variants.{TextTooLong, LineMissing, WrongKey, Malformed, OutOfRange, NotRising, TextGoesOn, WorkspaceSize, InvalidTask, PlanTooLong, UnknownAction, NotApplicable, TooManyStates, TooManyEntries, PlansTooLong, OutputTooLong}
 use Rattle.replay.specs.Replay.{Returned as Replay, refused as stopped, ran, knownSteps, appliedSteps, endState, replayed, returned as told}
 use Rattle.replay.specs.declared.Ended.{Ended}
 use Rattle.replay.specs.declared.Replayed.{Replayed}

@@ -5,9 +5,9 @@ use mathlib.Core.List.{List, [], map}
 use mathlib.Core.Logic.{inl, inr, ⊎-elim}
 use Prim.Native.Nat.{ℕ, _+_, _-_, _^_}
 use native.Mathlib.Omega.{arith}
-use Rattle.strips.specs.Refusal.{numberOf, placeOf}
-use Rattle.strips.specs.declared.Refusal.{Refusal}
-use Rattle.strips.specs.declared.Refusal.the-variants.{Malformed, OutOfRange, NotRising}
+use Rattle.outcome.specs.Refusal.{numberOf, placeOf}
+use Rattle.outcome.specs.declared.Refusal.{Refusal}
+use Rattle.outcome.specs.declared.Refusal.the-variants.{Malformed, OutOfRange, NotRising}
 use Rattle.task_format.specs.Text.{split, parts}
 use Rattle.task_format.specs.Value.{All, decimalFrom, decimal, members, Between, InForm, InRange, Rising, setOf, content}
 use Rattle.task_format.specs.Parse.{refused, fault}

@@ -9,7 +9,7 @@ use lib.Dec.{eqb, ltb}
 use lib.ListN.{length, getD, drop, drop-of-length-le}
 use lib.Seq.{drop-cons, drop-drop}
 use borrow.Author.Tests.{eq-eqb, ne-eqb, eqb-true, eqb-false, ltb-true, ltb-false, lt-ltb, le-ltb}
-use Rattle.strips.specs.declared.Refusal.the-variants.{TextGoesOn}
+use Rattle.outcome.specs.declared.Refusal.the-variants.{TextGoesOn}
 use Rattle.strips.specs.declared.Action.{Action}
 use Rattle.strips.specs.declared.Task.{Task}
 use Rattle.task_format.specs.Text.{newline, begins, split, lines}

@@ -1,7 +1,7 @@
 -- A reading by its verdict.
 use mathlib.Core.Path.{_≡_}
-use Rattle.strips.specs.Refusal.{numberOf, placeOf}
-use Rattle.strips.specs.declared.Refusal.{Refusal}
+use Rattle.outcome.specs.Refusal.{numberOf, placeOf}
+use Rattle.outcome.specs.declared.Refusal.{Refusal}
 use Rattle.strips.specs.declared.Task.{Task}
 use Rattle.task_format.specs.Parse.{Read, zeros, refused, accepted}
 use Rattle.task_reader.specs.Reading.{reported, unless}

@@ -10,7 +10,7 @@ use lib.Seq.{sets, length-sets, take-append-seam}
 use Rattle.strips.specs.Task.{Valid}
 use Rattle.strips.specs.Laws.Decision.{asked-yes, asked-no}
 use Rattle.strips.specs.Laws.Validity.{valid?}
-use Rattle.strips.specs.declared.Refusal.the-variants.{InvalidTask, OutputTooLong}
+use Rattle.outcome.specs.declared.Refusal.the-variants.{InvalidTask, OutputTooLong}
 use Rattle.strips.specs.declared.Task.{Task}
 use Rattle.task_format.specs.Limits.{maxText}
 use Rattle.task_format.specs.Render.{render}

@@ -11,7 +11,7 @@ use borrow.Author.Tests.{eqb-true, leb-true, ltb-true}
 use Rattle.strips.specs.State.{after}
 use Rattle.strips.specs.Task.{leaderActions, followerActions}
 use Rattle.strips.specs.Plan.{action, cost, AtMost, Runs, Least}
-use Rattle.strips.specs.Answer.{Value, minutes, none}
+use Rattle.outcome.specs.Answer.{Value, minutes, none}
 use Rattle.strips.specs.Laws.ClosedTable.{Served, Closed, least-plan}
 use Rattle.strips.specs.Laws.Order.{at-most-trans, at-most-cost}
 use Rattle.strips.specs.declared.Action.{Action}

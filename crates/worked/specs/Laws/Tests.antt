@@ -13,7 +13,7 @@ use borrow.Author.Tests.{eq-eqb, eqb-true, leb-true, ltb-true}
 use Rattle.strips.specs.State.{Holds, after}
 use Rattle.strips.specs.Plan.{action, cost, Before, here, there, shorter, earlier, AtMost, cheaper, smaller, same, Runs, done, next}
 use Rattle.strips.specs.Laws.Pigeonhole.{Distinct, nil, cons}
-use Rattle.strips.specs.Answer.{Value, minutes, none}
+use Rattle.outcome.specs.Answer.{Value, minutes, none}
 use Rattle.strips.specs.declared.Action.{Action}
 use Rattle.pareto.specs.Front.{UpTo, number-up-to, up-to-none, Below, number-below, below-none}
 use Rattle.worked.specs.Check.{both, either, every, some, everyUpTo, when, sameList, sameValue, upTo, below, holds, notLater, atMost, runsTo, among, not, distinct}

@@ -50,23 +50,24 @@ use Rattle.pareto.proofs.take_entries as g
 use Rattle.pareto.proofs.take_entries.Symbol as g-def
 use Rattle.pareto.proofs.take_entries.Symbol.{name as #take-entries}
 use Rattle.pareto.proofs.take_entries.Met as g-thm
-use Rattle.lines.specs.declared.Fronted.{Fronted}
+use Rattle.pareto.specs.declared.Fronted.{Fronted}
 use Rattle.lines.specs.Limits.{anyText}
-use Rattle.front.specs.Slices.{Slices, slices, withoutRows}
-use Rattle.lines.specs.Returned.{Returned, returned}
+use Rattle.listing.specs.Slices.{Slices, slices, withoutRows}
+use Rattle.pareto.specs.Returned.{Returned, returned}
 use Rattle.front.specs.Fronted.{Promised}
-use Rattle.front.specs.Listing.{Prepared}
-use Rattle.front.specs.Laws.Promise.{ready-room, prepared-promised}
-use Rattle.lines.proofs.Fronted as TR
-use Rattle.lines.proofs.Fronted.Laws as TR′
-use Rattle.front.proofs.trying.list_front as p
-use Rattle.front.proofs.trying.list_front.Symbol as p-def
-use Rattle.front.proofs.trying.list_front.Symbol.{name as #list-front}
-use Rattle.front.proofs.trying.list_front.Met as p-thm
-use Rattle.front.proofs.trying.line_count as c
-use Rattle.front.proofs.trying.line_count.Symbol as c-def
-use Rattle.front.proofs.trying.line_count.Symbol.{name as #line-count}
-use Rattle.front.proofs.trying.line_count.Met as c-thm
+use Rattle.listing.specs.Listing.{Prepared}
+use Rattle.listing.specs.Laws.Stages.{ready-room}
+use Rattle.front.specs.Laws.Promise.{prepared-promised}
+use Rattle.pareto.proofs.Fronted as TR
+use Rattle.pareto.proofs.Fronted.Laws as TR′
+use Rattle.front.proofs.taking.list_front as p
+use Rattle.front.proofs.taking.list_front.Symbol as p-def
+use Rattle.front.proofs.taking.list_front.Symbol.{name as #list-front}
+use Rattle.front.proofs.taking.list_front.Met as p-thm
+use Rattle.pareto.proofs.line_count as c
+use Rattle.pareto.proofs.line_count.Symbol as c-def
+use Rattle.pareto.proofs.line_count.Symbol.{name as #line-count}
+use Rattle.pareto.proofs.line_count.Met as c-thm
 use Rattle.front.proofs.taking.front.Key.{name as #front}
 use Rattle.front.proofs.taking.front as f
 use Rattle.front.proofs.taking.front.Statement as stated
@@ -382,6 +383,6 @@ front-spec 𝓤 H 𝓜 𝓖 𝓡 =
     entered 𝓤 H (tripleOf 𝓤 H (𝓖 .A) f.signature (f.spec 𝓤 H (𝓖 .A) (𝓜 .mem) (𝓡 .run)))
     (tables 𝓤 H 𝓜 𝓡 code.env .C) (tables 𝓤 H 𝓜 𝓡 code.env .Λ) #front code.function (code.unfolded 𝓤 H 𝓜 𝓡)
     (front-meets 𝓤 H (𝓖 .A) (givenOf 𝓤 H 𝓜 𝓖) (𝓜 .mem) (𝓡 .run) (tablesOf 𝓤 H 𝓜 (tables 𝓤 H 𝓜 𝓡 code.env))
-    (cited 𝓤 H (Listing 𝓤 H (𝓖 .A) (𝓜 .mem) (𝓡 .run)) 𝓜 𝓡 code.env #list-front p-def.routine code.calls-front·trying·list-front (p-thm.met 𝓤 H 𝓜 𝓖 𝓡))
-    (cited 𝓤 H (Counting 𝓤 H (𝓖 .A) (𝓜 .mem) (𝓡 .run)) 𝓜 𝓡 code.env #line-count c-def.routine code.calls-front·trying·line-count (c-thm.met 𝓤 H 𝓜 𝓖 𝓡))
+    (cited 𝓤 H (Listing 𝓤 H (𝓖 .A) (𝓜 .mem) (𝓡 .run)) 𝓜 𝓡 code.env #list-front p-def.routine code.calls-front·taking·list-front (p-thm.met 𝓤 H 𝓜 𝓖 𝓡))
+    (cited 𝓤 H (Counting 𝓤 H (𝓖 .A) (𝓜 .mem) (𝓡 .run)) 𝓜 𝓡 code.env #line-count c-def.routine code.calls-pareto·line-count (c-thm.met 𝓤 H 𝓜 𝓖 𝓡))
     (cited 𝓤 H (Taking 𝓤 H (𝓖 .A) (𝓜 .mem) (𝓡 .run)) 𝓜 𝓡 code.env #take-entries g-def.routine code.calls-pareto·take-entries (g-thm.met 𝓤 H 𝓜 𝓖 𝓡)))

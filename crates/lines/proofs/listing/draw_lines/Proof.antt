@@ -1,7 +1,7 @@
 -- `lines::listing::draw_lines` meets its contract.
 use native.Mathlib.Omega.{arith}
 use borrow.Author.Needs.{needs}
-use Rattle.lines.specs.Returned.{returned}
+use Rattle.pareto.specs.Returned.{returned}
 use Rattle.lines.specs.Laws.Drawing.{row-fits, row-kept, drawn-14, drawn-15, drawn-16, drawn-all}
 use Rattle.lines.proofs.listing.draw_lines.Statement.{statement}
 use Rattle.lines.proofs.listing.draw_lines.Tie as tie

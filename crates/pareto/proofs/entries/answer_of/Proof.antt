@@ -1,7 +1,7 @@
 -- `pareto::entries::answer_of` meets its contract.
 use mathlib.Core.Path.{_≡_, refl}
 use Prim.Native.Nat.{ℕ, zero, suc}
-use Rattle.strips.specs.declared.Answer.the-variants.{Cost, None}
+use Rattle.outcome.specs.declared.Answer.the-variants.{Cost, None}
 use Rattle.pareto.specs.Entries.{answerOf}
 use Rattle.pareto.proofs.entries.answer_of.Statement.{statement}
 use Rattle.pareto.proofs.entries.answer_of.Tie as tie

@@ -50,22 +50,22 @@ use Rattle.pareto.proofs.take_entries as g
 use Rattle.pareto.proofs.take_entries.Symbol as g-def
 use Rattle.pareto.proofs.take_entries.Symbol.{name as #take-entries}
 use Rattle.pareto.proofs.take_entries.Met as g-thm
-use Rattle.report.specs.declared.Reported.{Reported}
-use Rattle.report.specs.Reported.{Returned, returned, Promised}
-use Rattle.report.specs.Printing.{Printed}
-use Rattle.report.specs.Laws.Promise.{printed-promised}
-use Rattle.front.specs.Slices.{Slices, slices, withoutRows}
-use Rattle.front.specs.Laws.Promise.{ready-room}
-use Rattle.report.proofs.Reported as TR
-use Rattle.report.proofs.Reported.Laws as TR′
-use Rattle.report.proofs.printing.list_report as p
-use Rattle.report.proofs.printing.list_report.Symbol as p-def
-use Rattle.report.proofs.printing.list_report.Symbol.{name as #list-report}
-use Rattle.report.proofs.printing.list_report.Met as p-thm
-use Rattle.report.proofs.printing.line_count as c
-use Rattle.report.proofs.printing.line_count.Symbol as c-def
-use Rattle.report.proofs.printing.line_count.Symbol.{name as #line-count}
-use Rattle.report.proofs.printing.line_count.Met as c-thm
+use Rattle.printing.specs.declared.Reported.{Reported}
+use Rattle.printing.specs.Reported.{Returned, returned, Promised}
+use Rattle.printing.specs.Printing.{Printed}
+use Rattle.printing.specs.Laws.Promise.{printed-promised}
+use Rattle.listing.specs.Slices.{Slices, slices, withoutRows}
+use Rattle.listing.specs.Laws.Stages.{ready-room}
+use Rattle.printing.proofs.Reported as TR
+use Rattle.printing.proofs.Reported.Laws as TR′
+use Rattle.printing.proofs.list_report as p
+use Rattle.printing.proofs.list_report.Symbol as p-def
+use Rattle.printing.proofs.list_report.Symbol.{name as #list-report}
+use Rattle.printing.proofs.list_report.Met as p-thm
+use Rattle.printing.proofs.line_count as c
+use Rattle.printing.proofs.line_count.Symbol as c-def
+use Rattle.printing.proofs.line_count.Symbol.{name as #line-count}
+use Rattle.printing.proofs.line_count.Met as c-thm
 use Rattle.report.proofs.reporting.report.Key.{name as #report}
 use Rattle.report.proofs.reporting.report as f
 use Rattle.report.proofs.reporting.report.Statement as stated
@@ -388,6 +388,6 @@ report-spec 𝓤 H 𝓜 𝓖 𝓡 =
     entered 𝓤 H (tripleOf 𝓤 H (𝓖 .A) f.signature (f.spec 𝓤 H (𝓖 .A) (𝓜 .mem) (𝓡 .run)))
     (tables 𝓤 H 𝓜 𝓡 code.env .C) (tables 𝓤 H 𝓜 𝓡 code.env .Λ) #report code.function (code.unfolded 𝓤 H 𝓜 𝓡)
     (report-meets 𝓤 H (𝓖 .A) (givenOf 𝓤 H 𝓜 𝓖) (𝓜 .mem) (𝓡 .run) (tablesOf 𝓤 H 𝓜 (tables 𝓤 H 𝓜 𝓡 code.env))
-    (cited 𝓤 H (Listing 𝓤 H (𝓖 .A) (𝓜 .mem) (𝓡 .run)) 𝓜 𝓡 code.env #list-report p-def.routine code.calls-report·printing·list-report (p-thm.met 𝓤 H 𝓜 𝓖 𝓡))
-    (cited 𝓤 H (Counting 𝓤 H (𝓖 .A) (𝓜 .mem) (𝓡 .run)) 𝓜 𝓡 code.env #line-count c-def.routine code.calls-report·printing·line-count (c-thm.met 𝓤 H 𝓜 𝓖 𝓡))
+    (cited 𝓤 H (Listing 𝓤 H (𝓖 .A) (𝓜 .mem) (𝓡 .run)) 𝓜 𝓡 code.env #list-report p-def.routine code.calls-printing·list-report (p-thm.met 𝓤 H 𝓜 𝓖 𝓡))
+    (cited 𝓤 H (Counting 𝓤 H (𝓖 .A) (𝓜 .mem) (𝓡 .run)) 𝓜 𝓡 code.env #line-count c-def.routine code.calls-printing·line-count (c-thm.met 𝓤 H 𝓜 𝓖 𝓡))
     (cited 𝓤 H (Taking 𝓤 H (𝓖 .A) (𝓜 .mem) (𝓡 .run)) 𝓜 𝓡 code.env #take-entries g-def.routine code.calls-pareto·take-entries (g-thm.met 𝓤 H 𝓜 𝓖 𝓡)))
