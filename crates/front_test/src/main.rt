@@ -1,39 +1,25 @@
 // Fronts of document 01's worked hall and of a task with a long detour in two entries, all with lent slices and entries that
 // hold other numbers before, and what is left in every lent place. What it prints is compared with the file stdout.
-ghost use Prim.Native.Nat.{_≤_};
 use front::Fronted;
 use front::front;
-use libc::STDOUT_FILENO;
-use outcome::Answer;
-use outcome::Minutes;
-use outcome::Price;
-use outcome::Refusal;
 use pareto::Entry;
-use strips::Action;
 use strips::MAX_FOLLOWER;
 use strips::Task;
-
-fn print(text: &[u8]) {
-    io::write_all(STDOUT_FILENO, text);
-}
-
-fn print_field(name: &[u8], number: u64) {
-    print(name);
-    print(b"=");
-    io::print_decimal(STDOUT_FILENO, number);
-}
-
-fn print_answer(answer: Answer) {
-    match answer {
-        Answer::Cost(minutes) => print_field(b" answer", minutes.0 as u64),
-        Answer::None => print(b" answer=none"),
-    }
-}
-
-fn print_refusal(refusal: Refusal) {
-    print_field(b" refused", refusal.number() as u64);
-    print_field(b" place", refusal.place() as u64);
-}
+use test_support::action;
+use test_support::bare;
+use test_support::count_bytes;
+use test_support::count_heads;
+use test_support::count_lists;
+use test_support::count_rows;
+use test_support::count_states;
+use test_support::other_entry;
+use test_support::print;
+use test_support::print_entry;
+use test_support::print_field;
+use test_support::print_item;
+use test_support::print_numbers;
+use test_support::print_refusal;
+use test_support::worked;
 
 fn print_fronted(fronted: Fronted) {
     match fronted {
@@ -43,30 +29,10 @@ fn print_fronted(fronted: Fronted) {
     print(b"\n");
 }
 
-fn print_entry(entry: Entry) {
-    let price = entry.price;
-    let answer = entry.answer;
-    print_field(b"  price", price.0 as u64);
-    print_answer(answer);
-    print_field(b" outages", entry.leader_steps as u64);
-    print_field(b" moves", entry.follower_steps as u64);
-    print(b"\n");
-}
-
 fn print_two(fronted: Fronted, entries: [Entry; 2]) {
     print_fronted(fronted);
     print_entry(entries[0]);
     print_entry(entries[1]);
-}
-
-// What an entry holds before a call.
-fn other_entry() -> Entry {
-    Entry {
-        price: Price(77),
-        answer: Answer::Cost(Minutes(66)),
-        leader_steps: 55,
-        follower_steps: 44,
-    }
 }
 
 // Prints the outcome of the call with room for two entries, and both entries.
@@ -104,95 +70,10 @@ fn list_in<'w, 'b>(
     print_two(fronted, entries);
 }
 
-fn print_step(step: u8) {
-    print(b",");
-    io::print_decimal(STDOUT_FILENO, step as u64);
-}
-
 fn print_plans(plans: &[u8]) {
     print(b"  plans");
-    let mut i = 0;
-    while i < plans.len() {
-        print_step(plans[i]);
-        i += 1;
-    }
+    print_numbers(plans);
     print(b"\n");
-}
-
-fn is_same(number: u64, other: u64) -> usize
-    ensures { λ r. ⌜ r ≤ 1 ⌝ }
-{
-    if number == other { 1 } else { 0 }
-}
-
-// How many places hold a number.
-fn count_states(places: &[u64], number: u64) -> usize {
-    let mut same = 0;
-    let mut i = 0;
-    while i < places.len() {
-        same += is_same(places[i], number);
-        i += 1;
-    }
-    same
-}
-
-fn count_rows(places: &[usize], number: u64) -> usize {
-    let mut same = 0;
-    let mut i = 0;
-    while i < places.len() {
-        same += is_same(places[i] as u64, number);
-        i += 1;
-    }
-    same
-}
-
-fn count_bytes(places: &[u8], number: u64) -> usize {
-    let mut same = 0;
-    let mut i = 0;
-    while i < places.len() {
-        same += is_same(places[i] as u64, number);
-        i += 1;
-    }
-    same
-}
-
-fn count_heads(places: &[u32], number: u64) -> usize {
-    let mut same = 0;
-    let mut i = 0;
-    while i < places.len() {
-        same += is_same(places[i] as u64, number);
-        i += 1;
-    }
-    same
-}
-
-// Whether the number stands throughout a row.
-fn is_throughout(row: [u32; MAX_FOLLOWER], number: u64) -> usize
-    ensures { λ r. ⌜ r ≤ 1 ⌝ }
-{
-    let mut i = 0;
-    while i < MAX_FOLLOWER {
-        if row[i] as u64 != number {
-            return 0;
-        }
-        i += 1;
-    }
-    1
-}
-
-fn count_lists(places: &[[u32; MAX_FOLLOWER]], number: u64) -> usize {
-    let mut same = 0;
-    let mut i = 0;
-    while i < places.len() {
-        same += is_throughout(places[i], number);
-        i += 1;
-    }
-    same
-}
-
-fn print_count(count: usize) {
-    print(b",");
-    io::print_decimal(STDOUT_FILENO, count as u64);
 }
 
 // How many places of each working slice hold a number.
@@ -209,16 +90,16 @@ fn print_places(
     lists: &[[u32; MAX_FOLLOWER]],
     picked: &[usize],
 ) {
-    print_count(count_states(states, number));
-    print_count(count_states(keys, number));
-    print_count(count_rows(links, number));
-    print_count(count_rows(tree, number));
-    print_count(count_bytes(marks, number));
-    print_count(count_states(values, number));
-    print_count(count_bytes(reached, number));
-    print_count(count_heads(heads, number));
-    print_count(count_lists(lists, number));
-    print_count(count_rows(picked, number));
+    print_item(count_states(states, number) as u64);
+    print_item(count_states(keys, number) as u64);
+    print_item(count_rows(links, number) as u64);
+    print_item(count_rows(tree, number) as u64);
+    print_item(count_bytes(marks, number) as u64);
+    print_item(count_states(values, number) as u64);
+    print_item(count_bytes(reached, number) as u64);
+    print_item(count_heads(heads, number) as u64);
+    print_item(count_lists(lists, number) as u64);
+    print_item(count_rows(picked, number) as u64);
     print(b"\n");
 }
 
@@ -398,42 +279,6 @@ fn no_place(label: &[u8], task: Task) {
     tight(label, task, &mut picked, &mut plans);
 }
 
-fn action(cost: u32, precondition: u64, delete: u64, add: u64) -> Action {
-    Action {
-        cost,
-        precondition,
-        delete,
-        add,
-    }
-}
-
-// A task with facts 1 to 6 and no actions; fact 2 is the goal.
-fn bare() -> Task {
-    let idle = action(0, 0, 0, 0);
-    Task {
-        facts: 6,
-        initial: 13,
-        goal: 2,
-        leader_count: 0,
-        follower_count: 0,
-        leader: [idle; 16],
-        follower: [idle; 32],
-    }
-}
-
-// Document 01's hall: 1 tray in the house, 2 tray at the dock, 3 upper belt runs, 4 lower belt runs.
-fn worked() -> Task {
-    let mut task = bare();
-    task.facts = 4;
-    task.leader_count = 2;
-    task.follower_count = 2;
-    task.leader[0] = action(2, 4, 4, 0);
-    task.leader[1] = action(5, 8, 8, 0);
-    task.follower[0] = action(3, 5, 1, 2);
-    task.follower[1] = action(7, 9, 1, 2);
-    task
-}
-
 // The hall with a first outage that costs nothing.
 fn free_outage() -> Task {
     let mut task = worked();
@@ -479,7 +324,7 @@ fn refusals() {
 
 // The outage needs fact 5, which only a move gives.
 fn after_a_move() {
-    let mut task = bare();
+    let mut task = bare(13, 2);
     task.leader_count = 1;
     task.leader[0] = action(1, 16, 12, 0);
     task.follower_count = 2;
@@ -490,7 +335,7 @@ fn after_a_move() {
 
 // Without the belt, fact 11, a counter of 5 bits has to go down: facts 6 to 10 are its bits, facts 1 to 5 say that a bit is not set.
 fn long_detour() {
-    let mut task = bare();
+    let mut task = bare(13, 2);
     task.facts = 11;
     task.initial = 2016;
     task.goal = 31;

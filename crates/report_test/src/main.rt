@@ -1,39 +1,20 @@
 // Reports of document 01's worked hall and of tasks with repairs, ties and a cheaper way, in entries, plan slices and texts that
 // are just long enough, longer or too short. Every lent place holds something else before. What it prints is compared with the
 // file stdout.
-use libc::STDOUT_FILENO;
-use outcome::Answer;
-use outcome::Minutes;
-use outcome::Price;
-use outcome::Refusal;
 use pareto::Entry;
 use report::Reported;
 use report::report;
-use strips::Action;
 use strips::MAX_FOLLOWER;
 use strips::Task;
-
-fn print(text: &[u8]) {
-    io::write_all(STDOUT_FILENO, text);
-}
-
-fn print_field(name: &[u8], number: u64) {
-    print(name);
-    print(b"=");
-    io::print_decimal(STDOUT_FILENO, number);
-}
-
-fn print_answer(answer: Answer) {
-    match answer {
-        Answer::Cost(minutes) => print_field(b" answer", minutes.0 as u64),
-        Answer::None => print(b" answer=none"),
-    }
-}
-
-fn print_refusal(refusal: Refusal) {
-    print_field(b" refused", refusal.number() as u64);
-    print_field(b" place", refusal.place() as u64);
-}
+use test_support::action;
+use test_support::bare;
+use test_support::other_entry;
+use test_support::print;
+use test_support::print_entry;
+use test_support::print_field;
+use test_support::print_numbers;
+use test_support::print_refusal;
+use test_support::worked;
 
 fn print_written(entries: usize, bytes: usize) {
     print_field(b" entries", entries as u64);
@@ -48,16 +29,6 @@ fn print_reported(reported: Reported) {
     print(b"\n");
 }
 
-fn print_entry(entry: Entry) {
-    let price = entry.price;
-    let answer = entry.answer;
-    print_field(b"  price", price.0 as u64);
-    print_answer(answer);
-    print_field(b" outages", entry.leader_steps as u64);
-    print_field(b" moves", entry.follower_steps as u64);
-    print(b"\n");
-}
-
 fn print_three(reported: Reported, entries: [Entry; 3]) {
     print_reported(reported);
     print_entry(entries[0]);
@@ -65,29 +36,10 @@ fn print_three(reported: Reported, entries: [Entry; 3]) {
     print_entry(entries[2]);
 }
 
-fn print_step(step: u8) {
-    print(b",");
-    io::print_decimal(STDOUT_FILENO, step as u64);
-}
-
 fn print_plans(plans: &[u8]) {
     print(b"  plans");
-    let mut i = 0;
-    while i < plans.len() {
-        print_step(plans[i]);
-        i += 1;
-    }
+    print_numbers(plans);
     print(b"\n");
-}
-
-// What an entry holds before a call.
-fn other_entry() -> Entry {
-    Entry {
-        price: Price(77),
-        answer: Answer::Cost(Minutes(66)),
-        leader_steps: 55,
-        follower_steps: 44,
-    }
 }
 
 // Prints the outcome of the call with room for three entries, and the entries.
@@ -192,42 +144,6 @@ fn roomy(label: &[u8], task: Task) {
     lend(label, task, &mut plans, &mut text);
 }
 
-fn action(cost: u32, precondition: u64, delete: u64, add: u64) -> Action {
-    Action {
-        cost,
-        precondition,
-        delete,
-        add,
-    }
-}
-
-// A task with facts 1 to 6 and no actions; fact 2 is the goal.
-fn bare() -> Task {
-    let idle = action(0, 0, 0, 0);
-    Task {
-        facts: 6,
-        initial: 13,
-        goal: 2,
-        leader_count: 0,
-        follower_count: 0,
-        leader: [idle; 16],
-        follower: [idle; 32],
-    }
-}
-
-// Document 01's hall: 1 tray in the house, 2 tray at the dock, 3 upper belt runs, 4 lower belt runs.
-fn worked() -> Task {
-    let mut task = bare();
-    task.facts = 4;
-    task.leader_count = 2;
-    task.follower_count = 2;
-    task.leader[0] = action(2, 4, 4, 0);
-    task.leader[1] = action(5, 8, 8, 0);
-    task.follower[0] = action(3, 5, 1, 2);
-    task.follower[1] = action(7, 9, 1, 2);
-    task
-}
-
 fn floor() {
     let task = worked();
     just_enough(b"the hall", task);
@@ -264,7 +180,7 @@ fn no_facts() {
 
 // Three belts, a repair of all of them that costs nothing, and outages that end in the same state or in the same pair.
 fn repairs() {
-    let mut task = bare();
+    let mut task = bare(13, 2);
     task.initial = 29;
     task.leader_count = 6;
     task.leader[0] = action(3, 4, 4, 0);
@@ -286,7 +202,7 @@ fn repairs() {
 
 // A cheaper way to a state that was met before.
 fn met_before() {
-    let mut task = bare();
+    let mut task = bare(13, 2);
     task.leader_count = 3;
     task.leader[0] = action(9, 12, 12, 0);
     task.leader[1] = action(3, 4, 4, 0);

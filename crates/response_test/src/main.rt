@@ -1,35 +1,19 @@
 // Best responses on document 01's worked hall and on tasks with detours, loops and ties, all with lent slices that hold other
 // numbers before. What it prints is compared with the file stdout.
-ghost use Prim.Native.Nat.{_≤_};
-use libc::STDOUT_FILENO;
-use outcome::Answer;
-use outcome::Refusal;
 use response::Answered;
 use response::best_response;
-use strips::Action;
 use strips::Task;
-
-fn print(text: &[u8]) {
-    io::write_all(STDOUT_FILENO, text);
-}
-
-fn print_field(name: &[u8], number: u64) {
-    print(name);
-    print(b"=");
-    io::print_decimal(STDOUT_FILENO, number);
-}
-
-fn print_answer(answer: Answer) {
-    match answer {
-        Answer::Cost(minutes) => print_field(b" answer", minutes.0 as u64),
-        Answer::None => print(b" answer=none"),
-    }
-}
-
-fn print_refusal(refusal: Refusal) {
-    print_field(b" refused", refusal.number() as u64);
-    print_field(b" place", refusal.place() as u64);
-}
+use test_support::action;
+use test_support::bare;
+use test_support::count_bytes;
+use test_support::count_rows;
+use test_support::count_states;
+use test_support::print;
+use test_support::print_answer;
+use test_support::print_field;
+use test_support::print_numbers;
+use test_support::print_refusal;
+use test_support::worked;
 
 fn print_answered(answered: Answered) {
     match answered {
@@ -41,55 +25,26 @@ fn print_answered(answered: Answered) {
     }
 }
 
-fn print_step(step: u8) {
-    print(b",");
-    io::print_decimal(STDOUT_FILENO, step as u64);
-}
-
-fn print_plan(plan: &[u8]) {
+// The plan slice, and how many places of each working slice are zero.
+fn print_left(
+    states: &[u64],
+    keys: &[u64],
+    links: &[usize],
+    tree: &[usize],
+    marks: &[u8],
+    buckets: &[usize],
+    plan: &[u8],
+) {
     print(b" plan");
-    let mut i = 0;
-    while i < plan.len() {
-        print_step(plan[i]);
-        i += 1;
-    }
-}
-
-fn is_zero(number: u64) -> usize
-    ensures { λ r. ⌜ r ≤ 1 ⌝ }
-{
-    if number == 0 { 1 } else { 0 }
-}
-
-// How many places are zero.
-fn clear_states(places: &[u64]) -> usize {
-    let mut clear = 0;
-    let mut i = 0;
-    while i < places.len() {
-        clear += is_zero(places[i]);
-        i += 1;
-    }
-    clear
-}
-
-fn clear_rows(places: &[usize]) -> usize {
-    let mut clear = 0;
-    let mut i = 0;
-    while i < places.len() {
-        clear += is_zero(places[i] as u64);
-        i += 1;
-    }
-    clear
-}
-
-fn clear_bytes(places: &[u8]) -> usize {
-    let mut clear = 0;
-    let mut i = 0;
-    while i < places.len() {
-        clear += is_zero(places[i] as u64);
-        i += 1;
-    }
-    clear
+    print_numbers(plan);
+    print(b" zeros");
+    print_field(b" states", count_states(states, 0) as u64);
+    print_field(b" keys", count_states(keys, 0) as u64);
+    print_field(b" links", count_rows(links, 0) as u64);
+    print_field(b" tree", count_rows(tree, 0) as u64);
+    print_field(b" marks", count_bytes(marks, 0) as u64);
+    print_field(b" buckets", count_rows(buckets, 0) as u64);
+    print(b"\n");
 }
 
 fn respond(
@@ -118,15 +73,7 @@ fn respond(
         plan,
     );
     print_answered(answered);
-    print_plan(plan);
-    print(b" zeros");
-    print_field(b" states", clear_states(states) as u64);
-    print_field(b" keys", clear_states(keys) as u64);
-    print_field(b" links", clear_rows(links) as u64);
-    print_field(b" tree", clear_rows(tree) as u64);
-    print_field(b" marks", clear_bytes(marks) as u64);
-    print_field(b" buckets", clear_rows(buckets) as u64);
-    print(b"\n");
+    print_left(states, keys, links, tree, marks, buckets, plan);
 }
 
 // Slices of 7 places and more, which is document 01's reach, but for one that the caller lends, and 3 places for the plan.
@@ -201,42 +148,9 @@ fn short_plan(label: &[u8], task: Task, leader_plan: &[u8]) {
     lend_more(label, task, leader_plan, &mut plan);
 }
 
-fn action(cost: u32, precondition: u64, delete: u64, add: u64) -> Action {
-    Action {
-        cost,
-        precondition,
-        delete,
-        add,
-    }
-}
-
-// A task with facts 1 to 6 and no actions; fact 1 is there at first, fact 6 is the goal.
-fn bare() -> Task {
-    let idle = action(0, 0, 0, 0);
-    Task {
-        facts: 6,
-        initial: 1,
-        goal: 32,
-        leader_count: 0,
-        follower_count: 0,
-        leader: [idle; 16],
-        follower: [idle; 32],
-    }
-}
-
-// Document 01's hall: 1 tray in the house, 2 tray at the dock, 3 upper belt runs, 4 lower belt runs.
-fn worked() -> Task {
-    let mut task = bare();
-    task.facts = 4;
-    task.initial = 13;
-    task.goal = 2;
-    task.leader_count = 2;
-    task.follower_count = 2;
-    task.leader[0] = action(2, 4, 4, 0);
-    task.leader[1] = action(5, 8, 8, 0);
-    task.follower[0] = action(3, 5, 1, 2);
-    task.follower[1] = action(7, 9, 1, 2);
-    task
+// A task without actions: fact 1 is there at first, fact 6 is the goal.
+fn open_task() -> Task {
+    bare(1, 32)
 }
 
 fn floor() {
@@ -247,7 +161,7 @@ fn floor() {
     tight(b"outages 1 2", task, &[1, 2]);
     too_tight(b"6 places", task, &[]);
     roomy(b"no outage, more places", task, &[]);
-    roomy(b"no moves", bare(), &[]);
+    roomy(b"no moves", open_task(), &[]);
     let mut free = worked();
     free.goal = 0;
     roomy(b"empty goal", free, &[1]);
@@ -266,7 +180,7 @@ fn refusals() {
 
 // The direct way costs 100; the way over facts 2 and 3 costs 90.
 fn detour() {
-    let mut task = bare();
+    let mut task = open_task();
     task.follower_count = 4;
     task.follower[0] = action(100, 1, 0, 32);
     task.follower[1] = action(30, 1, 1, 2);
@@ -286,7 +200,7 @@ fn detour() {
 
 // A cheaper way to a state that was met before.
 fn met_before() {
-    let mut task = bare();
+    let mut task = open_task();
     task.follower_count = 4;
     task.follower[0] = action(9, 1, 1, 2);
     task.follower[1] = action(2, 1, 1, 4);
@@ -297,7 +211,7 @@ fn met_before() {
 
 // Actions that cost nothing and lead round in circles.
 fn loops() {
-    let mut task = bare();
+    let mut task = open_task();
     task.follower_count = 5;
     task.follower[0] = action(0, 1, 1, 2);
     task.follower[1] = action(0, 2, 2, 1);
@@ -311,7 +225,7 @@ fn loops() {
 
 // Ways of one cost; of one cost and as many steps.
 fn ties() {
-    let mut task = bare();
+    let mut task = open_task();
     task.follower_count = 5;
     task.follower[0] = action(5, 1, 1, 2);
     task.follower[1] = action(5, 2, 2, 32);
@@ -332,7 +246,7 @@ fn ties() {
 
 // A counter of 8 bits that goes down: facts 9 to 16 are its bits, facts 1 to 8 say that a bit is not set. Its one plan has 255 steps.
 fn counter() -> Task {
-    let mut task = bare();
+    let mut task = open_task();
     task.facts = 16;
     task.initial = 65280;
     task.goal = 255;

@@ -1,34 +1,20 @@
 // Replays on document 01's worked hall and on records that break a rule, and the smaller of two plans.
 // What it prints is compared with the file stdout.
-use libc::STDOUT_FILENO;
-use outcome::Refusal;
 use replay::Ended;
 use replay::Replayed;
-use strips::Action;
 use strips::Task;
-
-fn print(text: &[u8]) {
-    io::write_all(STDOUT_FILENO, text);
-}
-
-fn print_field(name: &[u8], number: u64) {
-    print(name);
-    print(b"=");
-    io::print_decimal(STDOUT_FILENO, number);
-}
+use test_support::action;
+use test_support::print;
+use test_support::print_field;
+use test_support::print_numbers;
+use test_support::print_refusal;
+use test_support::worked;
 
 fn print_ended(end: Ended) {
     print_field(b" price", end.price.0 as u64);
     print_field(b" minutes", end.minutes.0 as u64);
     print_field(b" state", end.state);
     print_field(b" goal", end.goal as u64);
-    print(b"\n");
-}
-
-fn print_refusal(refusal: Refusal) {
-    print_field(b" refused", refusal.number() as u64);
-    print_field(b" place", refusal.place() as u64);
-    print(b"\n");
 }
 
 fn replay(label: &[u8], task: Task, leader_plan: &[u8], follower_plan: &[u8]) {
@@ -38,6 +24,7 @@ fn replay(label: &[u8], task: Task, leader_plan: &[u8], follower_plan: &[u8]) {
         Replayed::Ran(end) => print_ended(end),
         Replayed::Refused(refusal) => print_refusal(refusal),
     }
+    print(b"\n");
 }
 
 fn outages(label: &[u8], task: Task, plan: &[u8]) {
@@ -51,35 +38,6 @@ fn moves(label: &[u8], task: Task, plan: &[u8]) {
 // No plan at all: what is asked of the record.
 fn judge(label: &[u8], task: Task) {
     replay(label, task, &[], &[]);
-}
-
-fn action(cost: u32, precondition: u64, delete: u64, add: u64) -> Action {
-    Action {
-        cost,
-        precondition,
-        delete,
-        add,
-    }
-}
-
-// Document 01's hall: 1 tray in the house, 2 tray at the dock, 3 upper belt runs, 4 lower belt runs.
-fn worked() -> Task {
-    let idle = action(0, 0, 0, 0);
-    let mut leader = [idle; 16];
-    leader[0] = action(2, 4, 4, 0);
-    leader[1] = action(5, 8, 8, 0);
-    let mut follower = [idle; 32];
-    follower[0] = action(3, 5, 1, 2);
-    follower[1] = action(7, 9, 1, 2);
-    Task {
-        facts: 4,
-        initial: 13,
-        goal: 2,
-        leader_count: 2,
-        follower_count: 2,
-        leader,
-        follower,
-    }
 }
 
 fn plans() {
@@ -189,22 +147,10 @@ fn invalid_places() {
     replay(b"unused move that drops, and no action", task, &[9], &[9]);
 }
 
-fn print_step(k: u8) {
-    print_field(b" step", k as u64);
-}
-
-fn print_plan(plan: &[u8]) {
-    let mut i = 0;
-    while i < plan.len() {
-        print_step(plan[i]);
-        i += 1;
-    }
-}
-
 fn smaller<'a>(label: &[u8], p: &'a [u8], q: &'a [u8]) {
     print(label);
     print(b":");
-    print_plan(strips::smaller(p, q));
+    print_numbers(strips::smaller(p, q));
     print(b"\n");
 }
 

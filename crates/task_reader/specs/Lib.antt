@@ -1,5 +1,4 @@
 -- What the contracts of this crate mean; `Laws` has what is proved about them.
 pub mod Reading
-pub mod Scan
 pub mod Line
 pub mod Laws

@@ -13,8 +13,8 @@ use Rattle.task_format.specs.Lines.{kindOf, actionOf, Room}
 use Rattle.task_format.specs.Parse.{follow, zeros}
 use Rattle.task_format.specs.Laws.Text.{upTo, behind}
 use Rattle.task_format.specs.declared.Kind.{Kind}
-use Rattle.task_reader.specs.Scan.{Good, Goes, AtMost}
-use Rattle.task_reader.specs.declared.values.Scan.{Scan}
+use Rattle.value_reader.specs.Scan.{Good, Goes, AtMost}
+use Rattle.value_reader.specs.declared.values.Scan.{Scan}
 
 -- the length of the key where the text begins with it, and else 0
 unfoldable pub matched : List ℕ → List ℕ → ℕ

@@ -5,9 +5,10 @@ use Prim.Native.Nat.{ℕ}
 use Rattle.outcome.specs.Refusal.{numberOf, placeOf}
 use Rattle.outcome.specs.declared.Refusal.the-variants.{TextGoesOn}
 use Rattle.strips.specs.declared.Task.{Task}
-use Rattle.task_format.specs.Parse.{Read, refused, accepted}
-use Rattle.task_reader.specs.declared.Verdict.{Verdict}
-use Rattle.task_reader.specs.declared.Verdict.the-variants.{Accepted, Refused}
+use Rattle.task_format.specs.Parse.{Read, accepted}
+use Rattle.value_reader.specs.Verdict.{unless}
+use Rattle.value_reader.specs.declared.Verdict.{Verdict}
+use Rattle.value_reader.specs.declared.Verdict.the-variants.{Accepted, Refused}
 use Rattle.task_reader.specs.declared.Reading.{Reading}
 
 unfoldable pub reported : Verdict → Task → Read
@@ -16,11 +17,6 @@ reported (Refused q) t = record { number = numberOf q; place = placeOf q; task =
 
 abbrev pub returned : Reading → Read
 returned r = reported (r .verdict) (r .task)
-
--- what reading goes on to where a verdict is in favour, and the refusal where it is not
-unfoldable pub unless : Verdict → Read → Read
-unless Accepted rest = rest
-unless (Refused q) rest = refused (numberOf q) (placeOf q)
 
 unfoldable pub accepts : Verdict → Bool
 accepts Accepted = true

@@ -2,7 +2,6 @@
 mod fields;
 mod keys;
 mod line;
-mod values;
 
 ghost use mathlib.Core.Path.{_≡_};
 ghost use Rattle.outcome.specs.Refusal.{numberOf, placeOf};
@@ -13,11 +12,7 @@ use line::read_lines;
 use outcome::Refusal;
 use strips::Task;
 use task_format::MAX_TEXT;
-
-pub enum Verdict {
-    Accepted,
-    Refused(Refusal),
-}
+pub use value_reader::Verdict;
 
 // The task that a text says; where it is refused, the record of zeros.
 pub struct Reading {

@@ -7,16 +7,16 @@ ghost use Rattle.task_format.specs.Text.{lines};
 ghost use Rattle.task_reader.specs.Line.{goesOn, past};
 ghost use Rattle.task_reader.specs.Reading.{tidied, accepts, endVerdict};
 use crate::Reading;
-use crate::Verdict;
 use crate::fields::store;
 use crate::fields::zeros;
 use crate::keys::key_length;
-use crate::values::begin;
-use crate::values::finish;
-use crate::values::step;
 use outcome::Refusal;
 use task_format::kind_of;
 use task_format::last_line;
+use value_reader::Verdict;
+use value_reader::begin;
+use value_reader::finish;
+use value_reader::step;
 
 // Whether the line goes on at `at`.
 fn goes_on(text: &[u8], at: usize) -> bool

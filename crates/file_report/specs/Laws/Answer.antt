@@ -11,8 +11,8 @@ use Rattle.outcome.specs.declared.Refusal.{Refusal}
 use Rattle.strips.specs.declared.Task.{Task}
 use Rattle.task_format.specs.Parse.{Read, accepted, parse}
 use Rattle.round_trip.specs.Theorems.{read-valid}
-use Rattle.task_reader.specs.declared.Verdict.{Verdict}
-use Rattle.task_reader.specs.declared.Verdict.the-variants.{Accepted, Refused}
+use Rattle.value_reader.specs.declared.Verdict.{Verdict}
+use Rattle.value_reader.specs.declared.Verdict.the-variants.{Accepted, Refused}
 use Rattle.task_reader.specs.Reading.{reported}
 use Rattle.search.specs.Limits.{maxPlaces}
 use Rattle.search.specs.Reachable.{Fits}

@@ -60,10 +60,10 @@ use Rattle.front.proofs.front as p
 use Rattle.front.proofs.front.Symbol as p-def
 use Rattle.front.proofs.front.Symbol.{name as #front}
 use Rattle.front.proofs.front.Met as p-thm
-use Rattle.front_test.proofs.other_entry as m
-use Rattle.front_test.proofs.other_entry.Symbol as m-def
-use Rattle.front_test.proofs.other_entry.Symbol.{name as #other-entry}
-use Rattle.front_test.proofs.other_entry.Met as m-thm
+use Rattle.test_support.proofs.other_entry as m
+use Rattle.test_support.proofs.other_entry.Symbol as m-def
+use Rattle.test_support.proofs.other_entry.Symbol.{name as #other-entry}
+use Rattle.test_support.proofs.other_entry.Met as m-thm
 use Rattle.front_test.proofs.print_two as g
 use Rattle.front_test.proofs.print_two.Symbol as g-def
 use Rattle.front_test.proofs.print_two.Symbol.{name as #print-two}
@@ -330,6 +330,6 @@ list-in-spec 𝓤 H 𝓜 𝓖 𝓡 =
     entered 𝓤 H (tripleOf 𝓤 H (𝓖 .A) f.signature (f.spec 𝓤 H (𝓖 .A) (𝓜 .mem) (𝓡 .run)))
     (tables 𝓤 H 𝓜 𝓡 code.env .C) (tables 𝓤 H 𝓜 𝓡 code.env .Λ) #list-in code.function (code.unfolded 𝓤 H 𝓜 𝓡)
     (list-in-meets 𝓤 H (𝓖 .A) (givenOf 𝓤 H 𝓜 𝓖) (𝓜 .mem) (𝓡 .run) (tablesOf 𝓤 H 𝓜 (tables 𝓤 H 𝓜 𝓡 code.env))
-    (cited 𝓤 H (Making 𝓤 H (𝓖 .A) (𝓜 .mem) (𝓡 .run)) 𝓜 𝓡 code.env #other-entry m-def.routine code.calls-front-test·other-entry (m-thm.met 𝓤 H 𝓜 𝓖 𝓡))
+    (cited 𝓤 H (Making 𝓤 H (𝓖 .A) (𝓜 .mem) (𝓡 .run)) 𝓜 𝓡 code.env #other-entry m-def.routine code.calls-test-support·other-entry (m-thm.met 𝓤 H 𝓜 𝓖 𝓡))
     (cited 𝓤 H (Listing 𝓤 H (𝓖 .A) (𝓜 .mem) (𝓡 .run)) 𝓜 𝓡 code.env #front p-def.routine code.calls-front·front (p-thm.met 𝓤 H 𝓜 𝓖 𝓡))
     (cited 𝓤 H (Printing 𝓤 H (𝓖 .A) (𝓜 .mem) (𝓡 .run)) 𝓜 𝓡 code.env #print-two g-def.routine code.calls-front-test·print-two (g-thm.met 𝓤 H 𝓜 𝓖 𝓡)))

@@ -60,10 +60,10 @@ use Rattle.report.proofs.report as p
 use Rattle.report.proofs.report.Symbol as p-def
 use Rattle.report.proofs.report.Symbol.{name as #report}
 use Rattle.report.proofs.report.Met as p-thm
-use Rattle.report_test.proofs.other_entry as m
-use Rattle.report_test.proofs.other_entry.Symbol as m-def
-use Rattle.report_test.proofs.other_entry.Symbol.{name as #other-entry}
-use Rattle.report_test.proofs.other_entry.Met as m-thm
+use Rattle.test_support.proofs.other_entry as m
+use Rattle.test_support.proofs.other_entry.Symbol as m-def
+use Rattle.test_support.proofs.other_entry.Symbol.{name as #other-entry}
+use Rattle.test_support.proofs.other_entry.Met as m-thm
 use Rattle.report_test.proofs.print_three as g
 use Rattle.report_test.proofs.print_three.Symbol as g-def
 use Rattle.report_test.proofs.print_three.Symbol.{name as #print-three}
@@ -457,6 +457,6 @@ report-in-spec 𝓤 H 𝓜 𝓖 𝓡 =
     entered 𝓤 H (tripleOf 𝓤 H (𝓖 .A) f.signature (f.spec 𝓤 H (𝓖 .A) (𝓜 .mem) (𝓡 .run)))
     (tables 𝓤 H 𝓜 𝓡 code.env .C) (tables 𝓤 H 𝓜 𝓡 code.env .Λ) #report-in code.function (code.unfolded 𝓤 H 𝓜 𝓡)
     (report-in-meets 𝓤 H (𝓖 .A) (givenOf 𝓤 H 𝓜 𝓖) (𝓜 .mem) (𝓡 .run) (tablesOf 𝓤 H 𝓜 (tables 𝓤 H 𝓜 𝓡 code.env))
-    (cited 𝓤 H (Making 𝓤 H (𝓖 .A) (𝓜 .mem) (𝓡 .run)) 𝓜 𝓡 code.env #other-entry m-def.routine code.calls-report-test·other-entry (m-thm.met 𝓤 H 𝓜 𝓖 𝓡))
+    (cited 𝓤 H (Making 𝓤 H (𝓖 .A) (𝓜 .mem) (𝓡 .run)) 𝓜 𝓡 code.env #other-entry m-def.routine code.calls-test-support·other-entry (m-thm.met 𝓤 H 𝓜 𝓖 𝓡))
     (cited 𝓤 H (Listing 𝓤 H (𝓖 .A) (𝓜 .mem) (𝓡 .run)) 𝓜 𝓡 code.env #report p-def.routine code.calls-report·report (p-thm.met 𝓤 H 𝓜 𝓖 𝓡))
     (cited 𝓤 H (Printing 𝓤 H (𝓖 .A) (𝓜 .mem) (𝓡 .run)) 𝓜 𝓡 code.env #print-three g-def.routine code.calls-report-test·print-three (g-thm.met 𝓤 H 𝓜 𝓖 𝓡)))

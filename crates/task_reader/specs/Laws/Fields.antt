@@ -11,7 +11,7 @@ use Rattle.task_format.specs.Lines.{withPart, withAction, kindOf}
 use Rattle.task_format.specs.Laws.Lines.{Other, kind-rest}
 use Rattle.task_format.specs.declared.Kind.{Kind}
 use Rattle.task_format.specs.declared.Kind.the-variants.{Number}
-use Rattle.task_reader.specs.Scan.{AtMost}
+use Rattle.value_reader.specs.Scan.{AtMost}
 
 pub part-add : (a : Action) (r x : ℕ) → (r ≡ 2 → ⊥) → (r ≡ 3 → ⊥) → (r ≡ 0 → ⊥) → record { cost = a .cost; precondition = a .precondition; delete = a .delete; add = x } ≡ withPart a r x
 unfolding withPart

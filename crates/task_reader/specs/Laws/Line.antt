@@ -20,16 +20,17 @@ use Rattle.task_format.specs.Laws.Choice.{by-test, either, never}
 use Rattle.task_format.specs.Laws.Text.{upTo, behind, lines-some, begins-line, upTo-drop, behind-drop, key-of}
 use Rattle.task_format.specs.Laws.Parse.{follow-end, follow-missing, follow-over, follow-key, follow-value, fault-form, judged-no}
 use Rattle.task_format.specs.declared.Kind.{Kind}
-use Rattle.task_reader.specs.Reading.{unless, accepts, endVerdict}
-use Rattle.task_reader.specs.Scan.{begun, Goes, Stepped, Finished, AtMost}
+use Rattle.value_reader.specs.Verdict.{unless}
+use Rattle.task_reader.specs.Reading.{accepts, endVerdict}
+use Rattle.value_reader.specs.Scan.{begun, Goes, Stepped, Finished, AtMost}
 use Rattle.task_reader.specs.Line.{goesOn, past, Small, Storable, OnLine, OnValue}
 use Rattle.task_reader.specs.Laws.Fields.{at-most}
 use Rattle.task_reader.specs.Laws.Keys.{Found}
-use Rattle.task_reader.specs.Laws.Scan.{good-begun, goes-begun}
-use Rattle.task_reader.specs.declared.Verdict.{Verdict}
-use Rattle.task_reader.specs.declared.Verdict.the-variants.{Accepted, Refused}
-use Rattle.task_reader.specs.declared.values.Scan.{Scan}
-use Rattle.task_reader.specs.declared.values.Value.{Value}
+use Rattle.value_reader.specs.Laws.Scan.{good-begun, goes-begun}
+use Rattle.value_reader.specs.declared.Verdict.{Verdict}
+use Rattle.value_reader.specs.declared.Verdict.the-variants.{Accepted, Refused}
+use Rattle.value_reader.specs.declared.values.Scan.{Scan}
+use Rattle.value_reader.specs.declared.values.Value.{Value}
 
 -- ---- the bytes of a line
 

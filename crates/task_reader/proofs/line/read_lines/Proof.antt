@@ -10,11 +10,11 @@ use Rattle.task_format.specs.Text.{lines}
 use Rattle.task_format.specs.Value.{Modest}
 use Rattle.task_format.specs.Parse.{accepted, follow}
 use Rattle.task_format.specs.Laws.Fields.{modest}
-use Rattle.task_reader.specs.Reading.{unless}
+use Rattle.value_reader.specs.Verdict.{unless}
 use Rattle.task_reader.specs.Line.{Small, OnLine, OnValue}
 use Rattle.task_reader.specs.Laws.Keys.{found, not-found}
 use Rattle.task_reader.specs.Laws.Line.{on-inside, past-later, small-zeros, turn-end, turn-missing, turn-key, value-start, value-more, value-broken, Entered, line-broken, line-refused, line-room, line-next}
-use Rattle.task_reader.specs.declared.Verdict.{Verdict}
+use Rattle.value_reader.specs.declared.Verdict.{Verdict}
 use Rattle.task_reader.proofs.line.read_lines.Statement.{statement}
 use Rattle.task_reader.proofs.line.read_lines.Tie as tie
 

@@ -1,0 +1,60 @@
+-- `test_support::counting::count_heads` is safe and ends.
+use Prim.Native.Nat.{_-_, _≤_}
+use native.Mathlib.Omega.{arith}
+use lib.ListN.{length}
+use borrow.Author.Needs.{needs}
+use Rattle.test_support.proofs.counting.count_heads.Statement.{statement}
+use Rattle.test_support.proofs.counting.count_heads.Tie as tie
+
+abbrev Inv-loop : tie.InvT-loop
+Inv-loop places number same₀ i₀ same i = (i ≤ length places) × (same ≤ i)
+
+abbrev μ-loop : tie.MeasureT-loop
+μ-loop places number same₀ i₀ same i = length places - i
+
+loop-holds : tie.Need-loop-holds Inv-loop μ-loop
+loop-holds c = (omega arith, omega arith)
+
+mul-is-same : tie.Need-mul-is-same Inv-loop μ-loop
+mul-is-same c = search needs
+
+shared-slice-read-is-same : tie.Need-shared-slice-read-is-same Inv-loop μ-loop
+shared-slice-read-is-same c = search needs
+
+cast-is-same : tie.Need-cast-is-same Inv-loop μ-loop
+cast-is-same c = omega (arith, c .shared-slice-known2 .given (c .before .before .loop .i))
+
+is-same-requires : tie.Need-is-same-requires Inv-loop μ-loop
+is-same-requires c κs = search needs
+
+add-same : tie.Need-add-same Inv-loop μ-loop
+add-same c = search needs
+
+add-i : tie.Need-add-i Inv-loop μ-loop
+add-i c = search needs
+
+loop-less : tie.Need-loop-less Inv-loop μ-loop
+loop-less c = search needs
+
+loop-again : tie.Need-loop-again Inv-loop μ-loop
+loop-again c = (omega arith, omega arith)
+
+returns : tie.Need-returns Inv-loop μ-loop
+returns c = search needs
+
+pub count-heads-spec : {M : Type 1} → statement M
+count-heads-spec =
+    tie.close
+    (tie.spec
+    Inv-loop
+    μ-loop
+    loop-holds
+    mul-is-same
+    shared-slice-read-is-same
+    cast-is-same
+    is-same-requires
+    add-same
+    add-i
+    loop-less
+    loop-again
+    returns)
