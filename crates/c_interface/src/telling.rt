@@ -5,7 +5,7 @@ ghost use lib.ListN.{set};
 ghost use Rattle.task_reader.specs.Reading as T;
 ghost use Rattle.printing.specs.Reported.{returned};
 ghost use Rattle.c_interface.specs.Told.{toldIn, readNumbers, reportNumbers};
-use printing::Reported;
+use report::Reported;
 use task_reader::Reading;
 use task_reader::Verdict;
 

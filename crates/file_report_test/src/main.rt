@@ -7,7 +7,7 @@ use file_report::answer;
 use libc::STDIN_FILENO;
 use libc::STDOUT_FILENO;
 use outcome::Refusal;
-use printing::Reported;
+use report::Reported;
 
 const INPUT_BYTES: usize = 262_144;
 

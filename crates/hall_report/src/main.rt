@@ -5,9 +5,9 @@ use file_report::answer;
 use libc::STDERR_FILENO;
 use libc::STDOUT_FILENO;
 use outcome::Refusal;
-use printing::Reported;
 use reading::Input;
 use reading::read_input;
+use report::Reported;
 use task_format::MAX_TEXT;
 
 // One byte more than a text may have.

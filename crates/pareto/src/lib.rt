@@ -1,4 +1,5 @@
-// What the front of a task needs: the selection of its lines among the rows of a table, and the lent slice of entries.
+// What the front of a task needs: the selection of its lines among the rows of a table, the lent slice of entries, and what a
+// call returns of them.
 // What the front is stands in specs/Front.antt.
 mod entries;
 mod returning;
