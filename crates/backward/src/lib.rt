@@ -1,8 +1,6 @@
 // The backward search: the best response from every row of a table of states at once.
 // Its work is proportional to the transitions: it walks lists of the transitions into each row.
 mod evaluating;
-mod extracting;
 mod transitions;
 
 pub use evaluating::evaluate;
-pub use extracting::extract;

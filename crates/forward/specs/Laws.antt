@@ -1,6 +1,5 @@
 -- What is proved about the meanings.
 pub mod Update
-pub mod Chains
 pub mod Ties
 pub mod Relaxing
 pub mod Trying

@@ -1,5 +1,4 @@
 -- What the contracts of this crate mean; `Laws` has what is proved about these meanings.
-pub mod Chains
 pub mod Columns
 pub mod Nearest
 pub mod Laws

@@ -1,14 +1,9 @@
 // The forward search: the least plan from one row of a table of states to every row that can be reached.
 // It takes the open row of least cost (then steps) next, and keeps each row's plan as a chain of links.
-mod chains;
 mod nearest;
 mod relaxing;
 mod settling;
 
-pub use chains::write_plan;
 pub use nearest::ahead;
 pub use nearest::nearest_goal;
 pub use settling::settle;
-
-// The link of a row is parent row * LINK_BASE + action.
-pub const LINK_BASE: usize = 64;

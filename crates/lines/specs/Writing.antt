@@ -8,8 +8,8 @@ use Rattle.strips.specs.Plan.{cost}
 use Rattle.strips.specs.declared.Task.{Task}
 use Rattle.search.specs.Limits.{keyBase}
 use Rattle.search.specs.Response.{Response}
-use Rattle.reachable.specs.Hash.{Indexed}
-use Rattle.forward.specs.Chains.{Linked, Inside}
+use Rattle.hashing.specs.Hash.{Indexed}
+use Rattle.chains.specs.Chains.{Linked, Inside}
 use Rattle.backward.specs.Values.{Responses}
 use Rattle.pareto.specs.Selection.{answers}
 

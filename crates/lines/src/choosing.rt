@@ -2,8 +2,8 @@
 ghost use Rattle.lines.specs.Choosing.{Tabled, Chosen};
 use backward::evaluate;
 use forward::settle;
+use hashing::index_rows;
 use pareto::select;
-use reachable::index_rows;
 use search::find;
 use strips::MAX_FOLLOWER;
 use strips::Task;

@@ -13,7 +13,7 @@ ghost use Rattle.lines.specs.Writing.{Searched, Kept};
 use crate::numbers::answer_steps;
 use crate::numbers::line_row;
 use crate::writing::write_response;
-use forward::write_plan;
+use chains::write_plan;
 use report_text::entry_bytes;
 use report_text::head_bytes;
 use report_text::plan_bytes;

@@ -9,7 +9,7 @@ use Rattle.strips.specs.Plan.{AtMost, cost}
 use Rattle.outcome.specs.Answer.{Value, minutes, none}
 use Rattle.strips.specs.declared.Action.{Action}
 use Rattle.search.specs.Limits.{keyBase}
-use Rattle.forward.specs.Chains.{Linked, Inside}
+use Rattle.chains.specs.Chains.{Linked, Inside}
 use Rattle.forward.specs.Columns.{Keyed}
 use Rattle.pareto.specs.Front.{Below}
 

@@ -5,7 +5,7 @@ ghost use Prim.Native.Nat.{ℕ, _≤_, _<_};
 ghost use lib.ListN.{length, take, drop};
 ghost use Rattle.strips.specs.Decision.{says};
 ghost use Rattle.strips.specs.declared.Action.{Action};
-ghost use Rattle.forward.specs.Chains.{Linked};
+ghost use Rattle.chains.specs.Chains.{Linked};
 ghost use Rattle.forward.specs.Columns.{Keyed};
 ghost use Rattle.pareto.specs.Selection.{answers, Columns, Plans, Prefers, Replaces, Choice, Picks};
 ghost use Rattle.pareto.specs.Laws.Values.{exceeds?};

@@ -1,6 +1,4 @@
 -- What is proved about the table while it is filled.
-pub mod Shares
-pub mod Hash
 pub mod Sorting
 pub mod Growth
 pub mod Gathering

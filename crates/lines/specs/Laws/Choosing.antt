@@ -19,7 +19,7 @@ use Rattle.search.specs.Rows.{Apart, Row, ReachTable}
 use Rattle.search.specs.Response.{Response}
 use Rattle.search.specs.Laws.Rows.{ascending-apart}
 use Rattle.search.specs.Laws.Reachable.{reach-leader}
-use Rattle.reachable.specs.Hash.{Sized}
+use Rattle.hashing.specs.Hash.{Sized}
 use Rattle.forward.specs.Columns.{Clear, Done, Settled}
 use Rattle.forward.specs.Laws.Problems.{leader-problem}
 use Rattle.backward.specs.Values.{Responses}

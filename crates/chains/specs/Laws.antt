@@ -1,0 +1,2 @@
+-- What is proved about chains.
+pub mod Chains

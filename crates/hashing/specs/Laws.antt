@@ -1,0 +1,3 @@
+-- What is proved about the hash table.
+pub mod Shares
+pub mod Hash
