@@ -4,5 +4,6 @@ pub mod Entries
 pub mod Layout
 pub mod Returned
 pub mod Selection
+pub mod Deciders
 pub mod Lines
 pub mod Laws

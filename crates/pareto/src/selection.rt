@@ -8,8 +8,7 @@ ghost use Rattle.strips.specs.declared.Action.{Action};
 ghost use Rattle.chains.specs.Chains.{Linked};
 ghost use Rattle.forward.specs.Columns.{Keyed};
 ghost use Rattle.pareto.specs.Selection.{answers, Columns, Plans, Prefers, Replaces, Choice, Picks};
-ghost use Rattle.pareto.specs.Laws.Values.{exceeds?};
-ghost use Rattle.pareto.specs.Laws.Selection.{candidate?};
+ghost use Rattle.pareto.specs.Deciders.{exceeds?, candidate?};
 use forward::ahead;
 use search::KEY_BASE;
 

@@ -19,10 +19,10 @@ listedOf r = record { number = r .number; place = r .place; count = r .count }
 pub record Texted (f : F.Returned) (rows : List (List ℕ)) (plans text text′ : List ℕ) (r : Returned) : Type 0 where
   pub same : listedOf r ≡ f
   pub refused : 1 ≤ f .number → (text′ ≡ text) × (r .bytes ≡ 0)
-  pub written : f .number ≡ 0 → (lines : List Line) → R.Describes rows (f .count) plans lines → R.Reported lines text text′ (r .bytes)
+  pub written : f .number ≡ 0 → (lines : List Line) → R.Describes rows (f .count) plans lines → R.ReportPut lines text text′ (r .bytes)
 
 -- the front is listed as with so many bytes of text; after a refusal the text is as it was, and else the report of the front
 pub record Printed (t : Task) (w w′ : Slices) (room : ℕ) (plans plans′ text text′ : List ℕ) (r : Returned) : Type 0 where
   pub prepared : Prepared t w w′ room (length text) plans plans′ (listedOf r)
   pub refused : 1 ≤ r .number → (text′ ≡ text) × (r .bytes ≡ 0)
-  pub written : r .number ≡ 0 → (lines : List Line) → Front t lines → R.Reported lines text text′ (r .bytes)
+  pub written : r .number ≡ 0 → (lines : List Line) → Front t lines → R.ReportPut lines text text′ (r .bytes)

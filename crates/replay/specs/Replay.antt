@@ -10,7 +10,7 @@ use Rattle.strips.specs.State.{holds?, applies?, after}
 use Rattle.strips.specs.Task.{leaderActions, followerActions}
 use Rattle.strips.specs.Plan.{known?, action, cost}
 use Rattle.outcome.specs.Refusal.{numberOf, placeOf}
-use Rattle.strips.specs.Laws.Validity.{valid?}
+use Rattle.strips.specs.Deciders.{valid?}
 use Rattle.strips.specs.declared.Action.{Action}
 use Rattle.strips.specs.declared.Task.{Task}
 use Rattle.replay.specs.declared.Replayed.{Replayed}

@@ -3,24 +3,24 @@ use mathlib.Core.List.{List, [], _∷_, _++_}
 use Prim.Native.Nat.{ℕ, suc}
 use lib.ListN.{length}
 use Rattle.outcome.specs.Answer.{Value, minutes, none}
-use Rattle.task_format.specs.Text.{newline, comma}
+use Rattle.task_format.specs.Text.{bytes, newline, comma}
 use Rattle.task_format.specs.Lines.{outagesKey, movesKey}
 use Rattle.task_format.specs.Render.{digitsOf}
 use Rattle.pareto.specs.Front.{Line}
 
 -- the keys, each with its "="; those of the plans are the file's
 abbrev pub entriesKey : List ℕ
-entriesKey = 101 ∷ 110 ∷ 116 ∷ 114 ∷ 105 ∷ 101 ∷ 115 ∷ 61 ∷ []
+entriesKey = bytes "entries="
 
 abbrev pub priceKey : List ℕ
-priceKey = 112 ∷ 114 ∷ 105 ∷ 99 ∷ 101 ∷ 61 ∷ []
+priceKey = bytes "price="
 
 abbrev pub answerKey : List ℕ
-answerKey = 97 ∷ 110 ∷ 115 ∷ 119 ∷ 101 ∷ 114 ∷ 61 ∷ []
+answerKey = bytes "answer="
 
 -- the word "none"
 abbrev pub noneWord : List ℕ
-noneWord = 110 ∷ 111 ∷ 110 ∷ 101 ∷ []
+noneWord = bytes "none"
 
 -- the decimal digits of a number, which has no more than n + 1 of them
 unfoldable pub numeral : ℕ → List ℕ

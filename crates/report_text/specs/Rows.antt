@@ -57,6 +57,6 @@ pub record Ready (text : List ℕ) (rows : List (List ℕ)) (count : ℕ) (plans
   pub room : length (reportText lines) ≤ length text
 
 -- the report stands at the front of the slice, which keeps what is beyond, and has r bytes
-pub record Reported (lines : List Line) (before after : List ℕ) (r : ℕ) : Type 0 where
+pub record ReportPut (lines : List Line) (before after : List ℕ) (r : ℕ) : Type 0 where
   pub text : after ≡ reportText lines ++ drop (length (reportText lines)) before
   pub bytes : r ≡ length (reportText lines)

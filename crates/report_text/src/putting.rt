@@ -7,7 +7,7 @@ ghost use Rattle.task_format.specs.Text.{comma};
 ghost use Rattle.text_output.specs.Puts.{Puts};
 ghost use Rattle.pareto.specs.Front.{Line};
 ghost use Rattle.report_text.specs.Report.{answerKey, numeral, planText, answerText, printed, lineText, linesText};
-ghost use Rattle.report_text.specs.Rows.{rowAnswer, rowLine, rowSteps, rowsSteps, lineAt, linesAt, Describes, Ready, Reported};
+ghost use Rattle.report_text.specs.Rows.{rowAnswer, rowLine, rowSteps, rowsSteps, lineAt, linesAt, Describes, Ready, ReportPut};
 use strips::MAX_FOLLOWER;
 use text_output::NUMBER_DIGITS;
 use text_output::put_bytes;
@@ -163,7 +163,7 @@ pub fn put_report(
     plans: &[u8],
 ) -> usize
     requires { ⌜ Ready (now text) (now rows) count (now plans) ⌝ }
-    ensures { λ r. ⌜ ((lines : List Line) → Describes (now (rows .entry)) count (now (plans .entry)) lines → Reported lines (now (text .entry)) (now (text .exit)) r) ⌝ }
+    ensures { λ r. ⌜ ((lines : List Line) → Describes (now (rows .entry)) count (now (plans .entry)) lines → ReportPut lines (now (text .entry)) (now (text .exit)) r) ⌝ }
 {
     let at = put_number_line(text, 0, b"entries=", count as u32);
     put_entries(text, at, rows, count, plans)

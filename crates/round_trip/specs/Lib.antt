@@ -1,10 +1,3 @@
--- Reading and writing undo each other: `Theorems` has the statements, the other files what they rest on.
-pub mod Numbers
-pub mod Pieces
-pub mod Sets
-pub mod Values
-pub mod Fields
-pub mod Built
-pub mod Lines
+-- Reading and writing undo each other: `Theorems` has the statements, `Laws` what they rest on.
 pub mod Theorems
-pub mod Longest
+pub mod Laws

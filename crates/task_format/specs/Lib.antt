@@ -3,6 +3,7 @@ pub mod Choice
 pub mod Limits
 pub mod Text
 pub mod Value
+pub mod Deciders
 pub mod Lines
 pub mod Parse
 pub mod Render

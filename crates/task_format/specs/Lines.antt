@@ -1,5 +1,5 @@
 -- The lines of a hall file: which are due, the key and the kind of value of each, and the field of the record that each fills.
-use mathlib.Core.List.{List, [], _∷_}
+use mathlib.Core.List.{List}
 use Prim.Native.Nat.{ℕ, _+_, _-_, _*_, _/_, _%_, _≤_, _<_}
 use lib.Dec.{eqb, ltb}
 use lib.ListN.{getD, set}
@@ -8,36 +8,37 @@ use Rattle.strips.specs.Task.{idle}
 use Rattle.strips.specs.declared.Action.{Action}
 use Rattle.strips.specs.declared.Task.{Task}
 use Rattle.task_format.specs.Choice.{pick}
+use Rattle.task_format.specs.Text.{bytes}
 use Rattle.task_format.specs.declared.Kind.{Kind}
 use Rattle.task_format.specs.declared.Kind.the-variants.{Number, FactList}
 
 -- the keys, each with its "="
 abbrev pub factsKey : List ℕ
-factsKey = 102 ∷ 97 ∷ 99 ∷ 116 ∷ 115 ∷ 61 ∷ []
+factsKey = bytes "facts="
 
 abbrev pub startKey : List ℕ
-startKey = 115 ∷ 116 ∷ 97 ∷ 114 ∷ 116 ∷ 61 ∷ []
+startKey = bytes "start="
 
 abbrev pub goalKey : List ℕ
-goalKey = 103 ∷ 111 ∷ 97 ∷ 108 ∷ 61 ∷ []
+goalKey = bytes "goal="
 
 abbrev pub outagesKey : List ℕ
-outagesKey = 111 ∷ 117 ∷ 116 ∷ 97 ∷ 103 ∷ 101 ∷ 115 ∷ 61 ∷ []
+outagesKey = bytes "outages="
 
 abbrev pub movesKey : List ℕ
-movesKey = 109 ∷ 111 ∷ 118 ∷ 101 ∷ 115 ∷ 61 ∷ []
+movesKey = bytes "moves="
 
 abbrev pub costKey : List ℕ
-costKey = 99 ∷ 111 ∷ 115 ∷ 116 ∷ 61 ∷ []
+costKey = bytes "cost="
 
 abbrev pub needsKey : List ℕ
-needsKey = 110 ∷ 101 ∷ 101 ∷ 100 ∷ 115 ∷ 61 ∷ []
+needsKey = bytes "needs="
 
 abbrev pub dropsKey : List ℕ
-dropsKey = 100 ∷ 114 ∷ 111 ∷ 112 ∷ 115 ∷ 61 ∷ []
+dropsKey = bytes "drops="
 
 abbrev pub givesKey : List ℕ
-givesKey = 103 ∷ 105 ∷ 118 ∷ 101 ∷ 115 ∷ 61 ∷ []
+givesKey = bytes "gives="
 
 -- the keys of an action's four lines, by the remainder of the line's number by four
 unfoldable pub actionKey : ℕ → List ℕ

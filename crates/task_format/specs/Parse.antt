@@ -10,7 +10,7 @@ use Rattle.task_format.specs.Limits.{maxText}
 use Rattle.task_format.specs.Text.{lines, begins}
 use Rattle.task_format.specs.Value.{content}
 use Rattle.task_format.specs.Lines.{keyOf, kindOf, lastLine, stored}
-use Rattle.task_format.specs.Laws.Deciding.{same?, le?, true?, inForm?, inRange?, rising?}
+use Rattle.task_format.specs.Deciders.{same?, le?, true?, inForm?, inRange?, ascending?}
 use Rattle.task_format.specs.declared.Kind.{Kind}
 
 -- number and place of the first question that gets no, 0 and 0 where none does, and the record
@@ -31,7 +31,7 @@ accepted t = record { number = 0; place = 0; task = t }
 
 -- the number of the first question about a value that gets no, or 0
 unfoldable pub fault : Kind → List ℕ → ℕ
-fault kind v = ask (inForm? kind v) 4 (ask (inRange? kind v) 5 (ask (rising? kind v) 6 0))
+fault kind v = ask (inForm? kind v) 4 (ask (inRange? kind v) 5 (ask (ascending? kind v) 6 0))
 
 -- the questions about the value of line n, and the rest where each gets a yes
 unfoldable pub judged : Kind → List ℕ → ℕ → Read → Read

@@ -2,8 +2,15 @@
 use mathlib.Core.Bool.{Bool, true, false}
 use mathlib.Core.List.{List, [], _∷_}
 use Prim.Native.Nat.{ℕ}
+use Prim.Native.Char.{code}
+use Prim.Native.String.{String, [] as no-more, _∷_ as _then_}
 use lib.Dec.{eqb}
 use Rattle.task_format.specs.Choice.{pick}
+
+-- the bytes of a text that is written out
+abbrev pub bytes : String → List ℕ
+bytes no-more = []
+bytes (c then s) = code c ∷ bytes s
 
 abbrev pub newline : ℕ
 newline = 10

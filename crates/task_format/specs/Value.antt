@@ -61,9 +61,9 @@ InRange (Number low high) v = Between low high (decimal v)
 InRange (FactList most) v = All (Between 1 most) (members v)
 
 -- question 6: does the list rise strictly?
-unfoldable pub Rising : Kind → List ℕ → Type 0
-Rising (Number low high) v = Unit {0}
-Rising (FactList most) v = Rises (members v)
+unfoldable pub Ascending : Kind → List ℕ → Type 0
+Ascending (Number low high) v = Unit {0}
+Ascending (FactList most) v = Rises (members v)
 
 -- the set of some facts, in which fact m is bit m - 1
 unfoldable pub setOf : List ℕ → ℕ
@@ -76,9 +76,9 @@ content (Number low high) v = decimal v
 content (FactList most) v = setOf (members v)
 
 -- x is a number or a set of this kind
-abbrev pub Holds : Kind → ℕ → Type 0
-Holds (Number low high) x = Between low high x
-Holds (FactList most) x = x < 2 ^ most
+abbrev pub OfKind : Kind → ℕ → Type 0
+OfKind (Number low high) x = Between low high x
+OfKind (FactList most) x = x < 2 ^ most
 
 -- the numbers of a kind have at most five digits, the members of its lists are at most 64
 abbrev pub Modest : Kind → Type 0

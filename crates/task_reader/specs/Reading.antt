@@ -7,8 +7,8 @@ use Rattle.outcome.specs.declared.Refusal.the-variants.{TextGoesOn}
 use Rattle.strips.specs.declared.Task.{Task}
 use Rattle.task_format.specs.Parse.{Read, accepted}
 use Rattle.value_reader.specs.Verdict.{unless}
-use Rattle.value_reader.specs.declared.Verdict.{Verdict}
-use Rattle.value_reader.specs.declared.Verdict.the-variants.{Accepted, Refused}
+use Rattle.outcome.specs.declared.Verdict.{Verdict}
+use Rattle.outcome.specs.declared.Verdict.the-variants.{Accepted, Refused}
 use Rattle.task_reader.specs.declared.Reading.{Reading}
 
 unfoldable pub reported : Verdict → Task → Read

@@ -10,9 +10,9 @@ ghost use Rattle.task_reader.specs.Reading.{returned};
 use fields::zeros;
 use line::read_lines;
 use outcome::Refusal;
+pub use outcome::Verdict;
 use strips::Task;
 use task_format::MAX_TEXT;
-pub use value_reader::Verdict;
 
 // The task that a text says; where it is refused, the record of zeros.
 pub struct Reading {

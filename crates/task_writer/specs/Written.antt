@@ -5,10 +5,10 @@ use Prim.Native.Nat.{ℕ}
 use lib.ListN.{length, drop}
 use Rattle.strips.specs.Decision.{ask}
 use Rattle.outcome.specs.Refusal.{numberOf, placeOf}
-use Rattle.strips.specs.Laws.Validity.{valid?}
+use Rattle.strips.specs.Deciders.{valid?}
 use Rattle.strips.specs.declared.Task.{Task}
 use Rattle.task_format.specs.Render.{render}
-use Rattle.task_format.specs.Laws.Deciding.{le?}
+use Rattle.task_format.specs.Deciders.{le?}
 use Rattle.task_writer.specs.declared.Written.{Written}
 use Rattle.task_writer.specs.declared.Written.the-variants.{Bytes, Refused}
 

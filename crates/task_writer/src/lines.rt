@@ -4,7 +4,7 @@ ghost use lib.ListN.{length};
 ghost use Rattle.strips.specs.Task.{Valid};
 ghost use Rattle.task_format.specs.Lines.{lastLine};
 ghost use Rattle.task_format.specs.Render.{valueText, render};
-ghost use Rattle.task_format.specs.Value.{Holds, Modest};
+ghost use Rattle.task_format.specs.Value.{OfKind, Modest};
 ghost use Rattle.text_output.specs.Puts.{Puts};
 ghost use Rattle.task_writer.specs.Puts.{endedLine};
 use crate::fields::field_of;
@@ -18,7 +18,7 @@ use task_format::last_line;
 use text_output::put_digits;
 
 fn put_value(out: &mut [u8], at: usize, kind: Kind, x: u64) -> usize
-    requires { ⌜ Modest kind × (Holds kind x × (at + length (valueText kind x) ≤ length (now out))) ⌝ }
+    requires { ⌜ Modest kind × (OfKind kind x × (at + length (valueText kind x) ≤ length (now out))) ⌝ }
     ensures { λ r. ⌜ Puts (valueText kind x) at (now (out .entry)) (now (out .exit)) r ⌝ }
 {
     match kind {

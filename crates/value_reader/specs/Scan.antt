@@ -11,7 +11,7 @@ use Rattle.task_format.specs.Parse.{Read, judged}
 use Rattle.task_format.specs.declared.Kind.{Kind}
 use Rattle.task_format.specs.declared.Kind.the-variants.{Number, FactList}
 use Rattle.value_reader.specs.Verdict.{unless}
-use Rattle.value_reader.specs.declared.Verdict.the-variants.{Accepted, Refused}
+use Rattle.outcome.specs.declared.Verdict.the-variants.{Accepted, Refused}
 use Rattle.value_reader.specs.declared.values.Scan.{Scan}
 use Rattle.value_reader.specs.declared.values.Value.{Value}
 

@@ -1,8 +1,8 @@
 -- A verdict on a value, and what it means for the text.
 use Rattle.outcome.specs.Refusal.{numberOf, placeOf}
 use Rattle.task_format.specs.Parse.{Read, refused}
-use Rattle.value_reader.specs.declared.Verdict.{Verdict}
-use Rattle.value_reader.specs.declared.Verdict.the-variants.{Accepted, Refused}
+use Rattle.outcome.specs.declared.Verdict.{Verdict}
+use Rattle.outcome.specs.declared.Verdict.the-variants.{Accepted, Refused}
 
 -- what reading goes on to where a verdict is in favour, and the refusal where it is not
 unfoldable pub unless : Verdict → Read → Read

@@ -6,8 +6,8 @@ ghost use Rattle.task_format.specs.Value.{IsDigit, Modest};
 ghost use Rattle.task_format.specs.Text.{comma};
 ghost use Rattle.strips.specs.Limits.{maxFacts};
 ghost use Rattle.value_reader.specs.Scan.{begun, broken, longer, Good, Stepped, Closed, Finished, refusedValue, takenValue};
-use crate::Verdict;
 use outcome::Refusal;
+use outcome::Verdict;
 use task_format::Kind;
 use task_format::MAX_DIGITS;
 

@@ -11,13 +11,13 @@ use Rattle.outcome.specs.declared.Refusal.{Refusal}
 use Rattle.strips.specs.declared.Task.{Task}
 use Rattle.task_format.specs.Parse.{Read, accepted, parse}
 use Rattle.round_trip.specs.Theorems.{read-valid}
-use Rattle.value_reader.specs.declared.Verdict.{Verdict}
-use Rattle.value_reader.specs.declared.Verdict.the-variants.{Accepted, Refused}
+use Rattle.outcome.specs.declared.Verdict.{Verdict}
+use Rattle.outcome.specs.declared.Verdict.the-variants.{Accepted, Refused}
 use Rattle.task_reader.specs.Reading.{reported}
 use Rattle.search.specs.Limits.{maxPlaces}
 use Rattle.search.specs.Reachable.{Fits}
 use Rattle.response.specs.Answered.{shortest}
-use Rattle.response.specs.Laws.Promise.{number-some}
+use Rattle.outcome.specs.Laws.Refusal.{number-some}
 use Rattle.pareto.specs.Front.{Line, Front}
 use Rattle.pareto.specs.Layout.{entryFor, plansFor}
 use Rattle.pareto.specs.Laws.Unique.{front-unique}

@@ -7,7 +7,7 @@ use lib.ListN.{length, take, drop, replicate, length-append, length-drop, replic
 use lib.Seq.{length-take-le, drop-at}
 use borrow.Rule.Slice.PartMut.{midOf, putMid}
 use Rattle.strips.specs.Limits.{maxFollower}
-use Rattle.search.specs.Cleared.{filled, zeroRows}
+use Rattle.search.specs.Cleared.{everywhere, zeroRows}
 use Rattle.search.specs.Laws.Cleared.{zeros-same}
 use Rattle.response.specs.Working.{Wiped}
 use Rattle.pareto.specs.Entries.{emptied}
@@ -42,7 +42,7 @@ pub record SameSizes (w w′ : Slices) : Type 0 where
 
 -- the rows that were kept are cleared too
 rows-emptied : (kept : ℕ) (rows rows₀ : List (List ℕ)) → kept ≤ length rows → length rows ≡ length rows₀ → emptied (take kept rows ++ zeroRows (drop kept rows)) kept ≡ zeroRows rows₀
-unfolding filled
+unfolding everywhere
 rows-emptied kept rows rows₀ h e =
     let z : List ℕ = replicate maxFollower 0 in
     let long : length (take kept rows) ≡ kept = length-take-le kept rows h in

@@ -1,10 +1,10 @@
 -- The first of some rows, from the verdict on two; rows chosen one after another; and that this comes to an end.
 use mathlib.Core.Path.{_≡_, refl, sym, ap, _∙_}
-use mathlib.Core.Logic.{_⊎_, inl, inr, ⊎-elim, Dec·and, ite}
+use mathlib.Core.Logic.{_⊎_, inl, inr, ⊎-elim, ite}
 use mathlib.Core.Bool.{Bool, true, false}
 use mathlib.Core.List.{List, [], _∷_, _++_, append-assoc, append-nil}
 use Prim.Native.Nat.{ℕ, zero, suc, _+_, _/_, _≤_, _<_}
-use native.Mathlib.Decide.{decLe, decLt}
+use native.Mathlib.Decide.{decLt}
 use native.Mathlib.Omega.{arith}
 use native.Mathlib.Nat.{eq-or-lt-of-le}
 use native.Mathlib.Numerals.{add-one}
@@ -22,10 +22,8 @@ use Rattle.search.specs.Limits.{keyBase}
 use Rattle.forward.specs.Nearest.{Ahead}
 use Rattle.pareto.specs.Front.{Below, number-below, below-none}
 use Rattle.pareto.specs.Selection.{rowAnswer, answers, Exceeds, Candidate, First, by-price, by-answer, by-plan, Prefers, Replaces, Choice, Picks, stop, more}
-use Rattle.pareto.specs.Laws.Values.{none-below, number-less, below-trans, below-irrefl, values-total, exceeds?}
-
-unfoldable pub candidate? : (A : ℕ → Value) (M : List ℕ) (n b i : ℕ) → Dec (Candidate A M n b i)
-candidate? A M n b i = Dec·and (decLe 1 (getD M i 0)) (exceeds? A n b i)
+use Rattle.pareto.specs.Deciders.{exceeds?}
+use Rattle.pareto.specs.Laws.Values.{none-below, number-less, below-trans, below-irrefl, values-total}
 
 impossible : {X : Type 0} → true ≡ false → X
 impossible e = absurd (let z : _≡_ {A = ℕ} 0 1 = cc in omega arith)

@@ -2,12 +2,10 @@
 use mathlib.Core.Path.{_≡_, refl, ap}
 use mathlib.Core.Logic.{_⊎_, inl, inr}
 use Prim.Native.Nat.{ℕ, _≤_, _<_}
-use native.Mathlib.Decide.{ℕ-discrete}
 use native.Mathlib.Omega.{arith}
 use Rattle.outcome.specs.Answer.{Value, minutes, none}
 use Rattle.strips.specs.Laws.Order.{trichotomy}
 use Rattle.pareto.specs.Front.{UpTo, number-up-to, up-to-none, Below, number-below, below-none}
-use Rattle.pareto.specs.Selection.{Exceeds}
 
 pub up-to-refl : (x : Value) → UpTo x x
 up-to-refl (minutes a) = let h : a ≤ a = omega arith in number-up-to h
@@ -68,23 +66,3 @@ values-total (minutes a) (minutes b) = of (trichotomy a b)
 values-total (minutes a) none = inl below-none
 values-total none (minutes b) = inr (inr below-none)
 values-total none none = inr (inl refl)
-
-unfoldable pub below? : (x y : Value) → Dec (Below x y)
-below? x y = of (values-total x y)
-  where
-    of : Below x y ⊎ (x ≡ y) ⊎ Below y x → Dec (Below x y)
-    of (inl h) = yes h
-    of (inr (inl e)) = no (λ h. below-irrefl (rw e at h))
-    of (inr (inr h)) = no (λ k. below-irrefl (below-trans h k))
-
-unfoldable pub exceeds? : (A : ℕ → Value) (n b i : ℕ) → Dec (Exceeds A n b i)
-exceeds? A n b i = of (ℕ-discrete b n) (below? (A b) (A i))
-  where
-    of : Dec (b ≡ n) → Dec (Below (A b) (A i)) → Dec (Exceeds A n b i)
-    of (yes e) d = yes (inl e)
-    of (no e) (yes h) = yes (inr h)
-    of (no e) (no h) = no (λ x. neither x)
-      where
-        neither : Exceeds A n b i → ⊥
-        neither (inl z) = e z
-        neither (inr z) = h z

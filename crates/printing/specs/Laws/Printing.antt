@@ -8,9 +8,10 @@ use Rattle.strips.specs.Limits.{maxFollower}
 use Rattle.outcome.specs.declared.Refusal.{Refusal}
 use Rattle.strips.specs.declared.Task.{Task}
 use Rattle.search.specs.Limits.{maxPlaces}
-use Rattle.search.specs.Cleared.{filled}
+use Rattle.search.specs.Cleared.{everywhere}
 use Rattle.response.specs.Answered.{Lent}
-use Rattle.response.specs.Laws.Promise.{number-some, left-clear}
+use Rattle.outcome.specs.Laws.Refusal.{number-some}
+use Rattle.response.specs.Laws.Promise.{left-clear}
 use Rattle.pareto.specs.Front.{Line, Front}
 use Rattle.pareto.specs.Layout.{plansFor}
 use Rattle.pareto.specs.Laws.Entries.{emptied-length}
@@ -59,7 +60,7 @@ module _ {rows : List (List ℕ)} {plans text : List ℕ} {fronted : Fronted} wh
   unfolding returned
   lines-ready e ready = subst (λ (f : Fronted). returned f .number ≡ 0 → R.Ready text rows (returned f .count) plans) e ready refl
 
-  pub lines-texted : {k b : ℕ} {text′ : List ℕ} → fronted ≡ Lines k → ((lines : List Line) → Describes rows k plans lines → R.Reported lines text text′ b)
+  pub lines-texted : {k b : ℕ} {text′ : List ℕ} → fronted ≡ Lines k → ((lines : List Line) → Describes rows k plans lines → R.ReportPut lines text text′ b)
       → Texted (returned fronted) rows plans text text′ (U.returned (Written k b))
   unfolding returned U.returned
   lines-texted e put = rw e (record { same = refl; refused = λ h. absurd (omega arith); written = λ z. put })
@@ -70,7 +71,7 @@ module _ {rows : List (List ℕ)} {plans text : List ℕ} {fronted : Fronted} wh
 
 -- as many rows are left as were lent
 rows-kept : (w w′ : Slices) (k : ℕ) → withoutRows k w′ ≡ cleared w → length (w′ .lists) ≡ length (w .lists)
-unfolding withoutRows cleared filled
+unfolding withoutRows cleared everywhere
 rows-kept w w′ k e = sym (emptied-length (w′ .lists) k) ∙ ap (λ (s : Slices). length (s .lists)) e ∙ length-replicate (length (w .lists)) (replicate maxFollower 0)
 
 rows-few : (w : Slices) → Lent (sizes w) → length (w .lists) ≤ maxPlaces

@@ -34,7 +34,7 @@ refusing P rows {r = r} kept l e x =
     rw (all-of r e (kept asked .1), kept asked .0) x
 
 module _ {t : Task} {entries : List Entry} {plans text text′ : List ℕ} (r : Returned)
-    (kept : 1 ≤ r .number → (text′ ≡ text) × (r .bytes ≡ 0)) (put : r .number ≡ 0 → (lines : List Line) → Front t lines → R.Reported lines text text′ (r .bytes)) where
+    (kept : 1 ≤ r .number → (text′ ≡ text) × (r .bytes ≡ 0)) (put : r .number ≡ 0 → (lines : List Line) → Front t lines → R.ReportPut lines text text′ (r .bytes)) where
   told-of : {n : ℕ} {f : F.Returned} {plans′ : List ℕ} {rows : List (List ℕ)} → L.Tried t n (length entries) (length text) plans f plans′ rows → listedOf r ≡ f
       → Told t n entries plans text r (filled entries rows (r .count)) plans′ text′
   told-of {n} (L.too-many {rows = rows} f) e = refusing (λ u es x. Told t n entries plans text u es plans x) rows kept (omega arith) e (too-many f)
@@ -57,7 +57,7 @@ printed-promised {r = r} p = record { outcome = outcome-of r (p .refused) (p .wr
 
 -- a part that was cleared, before the rest
 pub first-cleared : (rows : List (List ℕ)) {n : ℕ} {part : List (List ℕ)} → n ≤ length rows → part ≡ zeroRows (take n rows) → part ++ drop n rows ≡ emptied rows n
-unfolding C.filled
+unfolding C.everywhere
 first-cleared rows {n} h e = rw (e, length-take-le n rows h) (sym (emptied-is rows n h))
 
 module _ {t : Task} {w w′ : Slices} {room : ℕ} {plans plans′ text text′ : List ℕ} {r : Returned} {count : ℕ} (p : Printed t w w′ room plans plans′ text text′ r) (many : count ≡ r .count) where

@@ -11,7 +11,7 @@ use Rattle.strips.specs.State.{holds?}
 use Rattle.strips.specs.Task.{Valid, leaderActions, followerActions, padded}
 use Rattle.strips.specs.Plan.{cost, Runs}
 use Rattle.strips.specs.Laws.Decision.{asked-yes, asked-no}
-use Rattle.strips.specs.Laws.Validity.{valid?}
+use Rattle.strips.specs.Deciders.{valid?}
 use Rattle.strips.specs.Laws.Padding.{padded-used, leader-count, follower-count}
 use Rattle.strips.specs.declared.Task.{Task}
 use Rattle.replay.specs.Replay.{Returned, refused, ran, knownSteps, appliedSteps, endState, askSteps, replayed}

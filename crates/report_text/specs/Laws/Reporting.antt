@@ -8,7 +8,7 @@ use Rattle.text_output.specs.Puts.{Puts}
 use Rattle.text_output.specs.Laws.Puts.{puts-append, puts-length, put-over}
 use Rattle.pareto.specs.Front.{Line}
 use Rattle.report_text.specs.Report.{linesText, headText, reportText}
-use Rattle.report_text.specs.Rows.{linesAt, Describes, Ready, Reported}
+use Rattle.report_text.specs.Rows.{linesAt, Describes, Ready, ReportPut}
 use Rattle.report_text.specs.Laws.Rows.{lines-described}
 
 module _ {rows : List (List ℕ)} {count : ℕ} {plans : List ℕ} where
@@ -30,7 +30,7 @@ module _ {rows : List (List ℕ)} {count : ℕ} {plans : List ℕ} where
     lines-room x = omega (arith, room, x .end, puts-length x)
 
     pub report-put : {mid after : List ℕ} {at r : ℕ} → Puts (headText count) 0 text mid at → Puts (linesText (linesAt (take count rows) plans)) at mid after r
-        → (lines : List Line) → Describes rows count plans lines → Reported lines text after r
+        → (lines : List Line) → Describes rows count plans lines → ReportPut lines text after r
     report-put x y lines d =
         let put = puts-append x y in
         let whole = headText count ++ linesText (linesAt (take count rows) plans) in

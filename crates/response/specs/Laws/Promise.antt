@@ -12,11 +12,11 @@ use Rattle.strips.specs.State.{holds?}
 use Rattle.strips.specs.Task.{leaderActions, followerActions}
 use Rattle.strips.specs.Plan.{cost}
 use Rattle.outcome.specs.Refusal.{numberOf, placeOf}
+use Rattle.outcome.specs.Laws.Refusal.{number-some}
 use Rattle.strips.specs.Laws.Decision.{asked-yes, asked-no}
-use Rattle.strips.specs.Laws.Validity.{valid?}
+use Rattle.strips.specs.Deciders.{valid?}
 use Rattle.strips.specs.declared.Task.{Task}
 use Rattle.outcome.specs.declared.Refusal.{Refusal}
-use Rattle.outcome.specs.declared.Refusal.the-variants.{TextTooLong, LineMissing, WrongKey, Malformed, OutOfRange, NotRising, TextGoesOn, WorkspaceSize, InvalidTask, PlanTooLong, UnknownAction, NotApplicable, TooManyStates, TooManyEntries, PlansTooLong, OutputTooLong}
 use Rattle.replay.specs.Replay.{Returned as Replay, refused as stopped, ran, knownSteps, appliedSteps, endState, replayed, returned as told}
 use Rattle.replay.specs.declared.Ended.{Ended}
 use Rattle.replay.specs.declared.Replayed.{Replayed}
@@ -70,24 +70,6 @@ replay-ran t p {r} {e} f g =
 pub replay-refused : (t : Task) (p : List ℕ) {r : Replayed} {q : Refusal} → r ≡ Refused q → told r ≡ replayed t p [] → stopped (numberOf q) (placeOf q) ≡ replayed t p []
 unfolding told
 replay-refused t p {r} {q} f g = rw f at g
-
-pub number-some : (q : Refusal) → 1 ≤ numberOf q
-number-some TextTooLong = omega arith
-number-some (LineMissing x) = omega arith
-number-some (WrongKey x) = omega arith
-number-some (Malformed x) = omega arith
-number-some (OutOfRange x) = omega arith
-number-some (NotRising x) = omega arith
-number-some (TextGoesOn x) = omega arith
-number-some WorkspaceSize = omega arith
-number-some InvalidTask = omega arith
-number-some PlanTooLong = omega arith
-number-some (UnknownAction x) = omega arith
-number-some (NotApplicable x) = omega arith
-number-some TooManyStates = omega arith
-number-some TooManyEntries = omega arith
-number-some PlansTooLong = omega arith
-number-some OutputTooLong = omega arith
 
 pub left-held : {A : Type 0} (n : ℕ) → 8 ≤ n → n ≤ 12 → (held cleared : A) → held ≡ leftOf n held cleared
 unfolding leftOf

@@ -10,7 +10,7 @@ use Rattle.strips.specs.Task.{idle, Proper, Valid}
 use Rattle.strips.specs.declared.Action.{Action}
 use Rattle.strips.specs.declared.Task.{Task}
 use Rattle.task_format.specs.Choice.{pick}
-use Rattle.task_format.specs.Value.{Holds, Modest}
+use Rattle.task_format.specs.Value.{OfKind, Modest}
 use Rattle.task_format.specs.Lines.{kindOf, lastLine, partOf, actionOf, actionField, field}
 use Rattle.task_format.specs.Laws.Choice.{by-test, either}
 use Rattle.task_format.specs.Laws.Lines.{other, kind-rest, field-rest}
@@ -27,7 +27,7 @@ by-line P a b c d e r (suc (suc (suc (suc zero)))) h = d
 by-line P a b c d e r (suc (suc (suc (suc (suc zero))))) h = e
 by-line P a b c d e r (suc (suc (suc (suc (suc (suc n)))))) h = r (suc (suc (suc (suc (suc (suc n)))))) (omega arith)
 
-proper-part : (facts : ℕ) (a : Action) → Proper facts a → (r : ℕ) → Holds (pick (eqb r 2) (Number 0 maxCost) (FactList facts)) (partOf a r)
+proper-part : (facts : ℕ) (a : Action) → Proper facts a → (r : ℕ) → OfKind (pick (eqb r 2) (Number 0 maxCost) (FactList facts)) (partOf a r)
 unfolding partOf
 proper-part facts a p r =
     either (eqb r 2) (λ e. rw e (omega arith, p .cost))
@@ -36,22 +36,22 @@ proper-part facts a p r =
     (λ _. by-test (λ x. x < 2 ^ facts) (eqb r 0) _ _ (λ _. p .delete) (λ _. p .add))))
 
 module _ (t : Task) (v : Valid t) where
-  action-holds : (i r : ℕ) → i < t .«leader_count» + t .«follower_count» → Holds (pick (eqb r 2) (Number 0 maxCost) (FactList (t .facts))) (actionField t i r)
+  action-holds : (i r : ℕ) → i < t .«leader_count» + t .«follower_count» → OfKind (pick (eqb r 2) (Number 0 maxCost) (FactList (t .facts))) (actionField t i r)
   unfolding actionField
   action-holds i r h =
       either (ltb i (t .«leader_count»))
       (λ e. rw e (proper-part (t .facts) (getD (t .leader) i idle) (v .leader .used i (ltb-true i (t .«leader_count») e)) r))
       (λ e. rw e (let l = ltb-false i (t .«leader_count») e in proper-part (t .facts) (getD (t .follower) (i - t .«leader_count») idle) (v .follower .used (i - t .«leader_count») (omega arith)) r))
 
-  pub field-holds : (n : ℕ) → 1 ≤ n → n ≤ lastLine t → Holds (kindOf (t .facts) n) (field t n)
+  pub field-holds : (n : ℕ) → 1 ≤ n → n ≤ lastLine t → OfKind (kindOf (t .facts) n) (field t n)
   unfolding kindOf field
   field-holds =
-      by-line (λ n. n ≤ lastLine t → Holds (kindOf (t .facts) n) (field t n))
+      by-line (λ n. n ≤ lastLine t → OfKind (kindOf (t .facts) n) (field t n))
       (λ _. (v .some-facts, v .few-facts)) (λ _. v .initial) (λ _. v .goal) (λ _. (omega arith, v .leader .room)) (λ _. (omega arith, v .follower .room))
       (λ n h l.
       let o = other n h in
-      subst (λ (k : Kind). Holds k (field t n)) (sym (kind-rest n o (t .facts)))
-      (subst (Holds (pick (eqb (n % 4) 2) (Number 0 maxCost) (FactList (t .facts)))) (field-rest n o t) (action-holds (actionOf n) (n % 4) (omega arith))))
+      subst (λ (k : Kind). OfKind k (field t n)) (sym (kind-rest n o (t .facts)))
+      (subst (OfKind (pick (eqb (n % 4) 2) (Number 0 maxCost) (FactList (t .facts)))) (field-rest n o t) (action-holds (actionOf n) (n % 4) (omega arith))))
 
 pub modest : (facts : ℕ) → facts ≤ maxFacts → (n : ℕ) → Modest (kindOf facts n)
 unfolding kindOf

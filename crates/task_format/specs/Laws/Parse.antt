@@ -9,11 +9,11 @@ use Rattle.strips.specs.Laws.Decision.{asked-yes, asked-no}
 use Rattle.strips.specs.declared.Task.{Task}
 use Rattle.task_format.specs.Limits.{maxText}
 use Rattle.task_format.specs.Text.{lines, begins}
-use Rattle.task_format.specs.Value.{InForm, InRange, Rising, content}
+use Rattle.task_format.specs.Value.{InForm, InRange, Ascending, content}
 use Rattle.task_format.specs.Lines.{keyOf, kindOf, lastLine, stored}
 use Rattle.task_format.specs.Parse.{Read, zeros, refused, accepted, fault, judged, follow, parse}
 use Rattle.task_format.specs.Laws.Choice.{never}
-use Rattle.task_format.specs.Laws.Deciding.{same?, le?, true?, inForm?, inRange?, rising?}
+use Rattle.task_format.specs.Deciders.{same?, le?, true?, inForm?, inRange?, ascending?}
 use Rattle.task_format.specs.declared.Kind.{Kind}
 
 module _ (kind : Kind) (v : List ℕ) where
@@ -25,13 +25,13 @@ module _ (kind : Kind) (v : List ℕ) where
   unfolding fault
   fault-range f n = asked-yes (inForm? kind v) f 4 _ ∙ asked-no (inRange? kind v) n 5 _
 
-  pub fault-rising : InForm kind v → InRange kind v → (Rising kind v → ⊥) → fault kind v ≡ 6
+  pub fault-rising : InForm kind v → InRange kind v → (Ascending kind v → ⊥) → fault kind v ≡ 6
   unfolding fault
-  fault-rising f g n = asked-yes (inForm? kind v) f 4 _ ∙ asked-yes (inRange? kind v) g 5 _ ∙ asked-no (rising? kind v) n 6 0
+  fault-rising f g n = asked-yes (inForm? kind v) f 4 _ ∙ asked-yes (inRange? kind v) g 5 _ ∙ asked-no (ascending? kind v) n 6 0
 
-  pub fault-none : InForm kind v → InRange kind v → Rising kind v → fault kind v ≡ 0
+  pub fault-none : InForm kind v → InRange kind v → Ascending kind v → fault kind v ≡ 0
   unfolding fault
-  fault-none f g h = asked-yes (inForm? kind v) f 4 _ ∙ asked-yes (inRange? kind v) g 5 _ ∙ asked-yes (rising? kind v) h 6 0
+  fault-none f g h = asked-yes (inForm? kind v) f 4 _ ∙ asked-yes (inRange? kind v) g 5 _ ∙ asked-yes (ascending? kind v) h 6 0
 
   pub judged-yes : (n : ℕ) (rest : Read) → fault kind v ≡ 0 → judged kind v n rest ≡ rest
   unfolding judged

@@ -27,8 +27,8 @@ use Rattle.task_reader.specs.Line.{goesOn, past, Small, Storable, OnLine
 use Rattle.task_reader.specs.Laws.Fields.{at-most}
 use Rattle.task_reader.specs.Laws.Keys.{Found}
 use Rattle.value_reader.specs.Laws.Scan.{good-begun, goes-begun}
-use Rattle.value_reader.specs.declared.Verdict.{Verdict}
-use Rattle.value_reader.specs.declared.Verdict.the-variants.{Accepted, Refused}
+use Rattle.outcome.specs.declared.Verdict.{Verdict}
+use Rattle.outcome.specs.declared.Verdict.the-variants.{Accepted, Refused}
 use Rattle.value_reader.specs.declared.values.Scan.{Scan}
 use Rattle.value_reader.specs.declared.values.Value.{Value}
 

@@ -6,8 +6,8 @@ use Rattle.strips.specs.declared.Task.{Task}
 use Rattle.task_format.specs.Parse.{Read, zeros, refused, accepted}
 use Rattle.value_reader.specs.Verdict.{unless}
 use Rattle.task_reader.specs.Reading.{reported}
-use Rattle.value_reader.specs.declared.Verdict.{Verdict}
-use Rattle.value_reader.specs.declared.Verdict.the-variants.{Accepted, Refused}
+use Rattle.outcome.specs.declared.Verdict.{Verdict}
+use Rattle.outcome.specs.declared.Verdict.the-variants.{Accepted, Refused}
 
 pub reported-accepted : (d : Verdict) (t : Task) → d ≡ Accepted → reported d t ≡ unless d (accepted t)
 unfolding reported unless

@@ -2,7 +2,7 @@
 use denote.Ref.{now}
 use borrow.Author.Needs.{needs}
 use Rattle.strips.specs.Laws.Decision.{granted, denied}
-use Rattle.strips.specs.Laws.Validity.{valid?}
+use Rattle.strips.specs.Deciders.{valid?}
 use Rattle.task_writer.specs.Laws.Written.{write-invalid, write-valid}
 use Rattle.task_writer.proofs.write.Statement.{statement}
 use Rattle.task_writer.proofs.write.Tie as tie

@@ -16,7 +16,7 @@ use Rattle.task_format.specs.Lines.{keyOf, kindOf, partOf, actionOf, actionFiel
 use Rattle.task_format.specs.Render.{digits, factsOf, listed, valueText, lineText, linesText, render}
 use Rattle.task_format.specs.Laws.Choice.{either}
 use Rattle.task_format.specs.Laws.Digits.{digits-some}
-use Rattle.task_format.specs.Value.{Holds, Modest}
+use Rattle.task_format.specs.Value.{OfKind, Modest}
 use Rattle.task_format.specs.Laws.Fields.{field-holds, modest}
 use Rattle.task_format.specs.Laws.Lines.{other, field-rest}
 use Rattle.task_format.specs.declared.Kind.{Kind}
@@ -95,8 +95,8 @@ render-is t = refl
 pub value-same : (t : Task) (n : ℕ) (kind : Kind) (x : ℕ) → kind ≡ kindOf (t .facts) n → x ≡ field t n → valueText kind x ≡ valueText (kindOf (t .facts) n) (field t n)
 value-same t n kind x e f = cc
 
-pub value-holds : (t : Task) → Valid t → (n : ℕ) → 1 ≤ n → n ≤ lastLine t → (kind : Kind) (x : ℕ) → kind ≡ kindOf (t .facts) n → x ≡ field t n → Modest kind × Holds kind x
+pub value-holds : (t : Task) → Valid t → (n : ℕ) → 1 ≤ n → n ≤ lastLine t → (kind : Kind) (x : ℕ) → kind ≡ kindOf (t .facts) n → x ≡ field t n → Modest kind × OfKind kind x
 value-holds t v n h l kind x e f = (
   subst Modest (sym e) (modest (t .facts) (v .few-facts) n),
-  subst (λ (k : Kind). Holds k x) (sym e) (subst (Holds (kindOf (t .facts) n)) (sym f) (field-holds t v n h l)),
+  subst (λ (k : Kind). OfKind k x) (sym e) (subst (OfKind (kindOf (t .facts) n)) (sym f) (field-holds t v n h l)),
 )

@@ -9,12 +9,12 @@ use lib.ListN.{length, take, drop, replicate, length-replicate}
 use lib.Seq.{sets, length-sets, take-append-seam}
 use Rattle.strips.specs.Task.{Valid}
 use Rattle.strips.specs.Laws.Decision.{asked-yes, asked-no}
-use Rattle.strips.specs.Laws.Validity.{valid?}
+use Rattle.strips.specs.Deciders.{valid?}
 use Rattle.outcome.specs.declared.Refusal.the-variants.{InvalidTask, OutputTooLong}
 use Rattle.strips.specs.declared.Task.{Task}
 use Rattle.task_format.specs.Limits.{maxText}
 use Rattle.task_format.specs.Render.{render}
-use Rattle.task_format.specs.Laws.Deciding.{le?}
+use Rattle.task_format.specs.Deciders.{le?}
 use Rattle.task_format.specs.Laws.Size.{render-size}
 use Rattle.text_output.specs.Puts.{Puts}
 use Rattle.text_output.specs.Laws.Puts.{put-over}

@@ -9,7 +9,7 @@ use Rattle.outcome.specs.Refusal.{numberOf, placeOf}
 use Rattle.outcome.specs.declared.Refusal.{Refusal}
 use Rattle.outcome.specs.declared.Refusal.the-variants.{Malformed, OutOfRange, NotRising}
 use Rattle.task_format.specs.Text.{split, parts}
-use Rattle.task_format.specs.Value.{All, decimalFrom, decimal, members, Between, InForm, InRange, Rising, setOf, content}
+use Rattle.task_format.specs.Value.{All, decimalFrom, decimal, members, Between, InForm, InRange, Ascending, setOf, content}
 use Rattle.task_format.specs.Parse.{refused, fault}
 use Rattle.task_format.specs.Laws.Choice.{never}
 use Rattle.task_format.specs.Laws.Value.{members-some}
@@ -18,7 +18,7 @@ use Rattle.task_format.specs.declared.Kind.{Kind}
 use Rattle.task_format.specs.declared.Kind.the-variants.{Number, FactList}
 use Rattle.value_reader.specs.Verdict.{unless}
 use Rattle.value_reader.specs.Scan.{NumberGoes, Goes, Closed, refusedValue, takenValue, AtMost, Finished}
-use Rattle.value_reader.specs.declared.Verdict.the-variants.{Accepted, Refused}
+use Rattle.outcome.specs.declared.Verdict.the-variants.{Accepted, Refused}
 use Rattle.value_reader.specs.declared.values.Scan.{Scan}
 
 not-refused : {q : Refusal} → Refused q ≡ Accepted → ⊥
@@ -65,7 +65,7 @@ module _ (low high : ℕ) (s : Scan) (n : ℕ) where
         (λ v g. fault-range (Number low high) v (formed v g) (λ b. o (let e = is v g in (omega (arith, b .0, e), omega (arith, b .1, e))))) (λ e. omega (arith, e)) refl
 
     pub number-inside : Between low high (s .number) → Finished (Number low high) s n (takenValue (s .number))
-    unfolding InRange Rising content
+    unfolding InRange Ascending content
     number-inside b =
         finished-yes (Number low high) s n (s .number)
         (λ v g. fault-none (Number low high) v (formed v g) (let e = is v g in (omega (arith, b .0, e), omega (arith, b .1, e))) tt) (λ v g. sym (is v g)) (b .1)
@@ -77,7 +77,7 @@ module _ (most : ℕ) (s : Scan) (n : ℕ) where
   list-fresh z f v g = g .fresh f z
 
   pub list-empty : s .digits ≡ 0 → s .first ≡ true → Finished (FactList most) s n (takenValue 0)
-  unfolding InForm InRange Rising content members setOf
+  unfolding InForm InRange Ascending content members setOf
   list-empty z f =
       finished-yes (FactList most) s n 0
       (λ v g. let e = list-fresh z f v g in rw e (fault-none (FactList most) [] (inl refl) tt tt))
@@ -109,16 +109,16 @@ module _ (most : ℕ) (s : Scan) (n : ℕ) where
     unfolding InRange decimalFrom split
     list-ranged e = let x = k .range e in rw (members-some v some) (g .ranged (x .0) (x .1, tt))
 
-    list-rise : InRange (FactList most) v → Rising (FactList most) v → r .rising ≡ true
-    unfolding Rising decimalFrom split
+    list-rise : InRange (FactList most) v → Ascending (FactList most) v → r .rising ≡ true
+    unfolding Ascending decimalFrom split
     list-rise a q = let x = g .rise (all a) (rw (members-some v some) at q) in k .risen (x .0) (x .1 .0)
 
-    list-risen : r .«in_range» ≡ true → r .rising ≡ true → Rising (FactList most) v
-    unfolding Rising decimalFrom split
+    list-risen : r .«in_range» ≡ true → r .rising ≡ true → Ascending (FactList most) v
+    unfolding Ascending decimalFrom split
     list-risen i e = let x = k .rise i e in rw (members-some v some) (g .risen (all (list-ranged i)) (x .0) (x .1, tt))
 
     list-set : r .«in_range» ≡ true → r .rising ≡ true → r .set ≡ content (FactList most) v
-    unfolding content decimalFrom split setOf Rising
+    unfolding content decimalFrom split setOf Ascending
     list-set i e =
         let y : setOf (map decimal (parts v)) ≡ s .set + (2 ^ (s .number - 1) + 0) = g .says (all (list-ranged i)) (rw (members-some v some) at (list-risen i e)) in
         k .set i e ∙ rw (members-some v some) (omega (arith, y))

@@ -14,7 +14,7 @@ use Rattle.value_reader.specs.Verdict.{unless}
 use Rattle.task_reader.specs.Line.{Small, OnLine, OnValue}
 use Rattle.task_reader.specs.Laws.Keys.{found, not-found}
 use Rattle.task_reader.specs.Laws.Line.{on-inside, past-later, small-zeros, turn-end, turn-missing, turn-key, value-start, value-more, value-broken, Entered, line-broken, line-refused, line-room, line-next}
-use Rattle.value_reader.specs.declared.Verdict.{Verdict}
+use Rattle.outcome.specs.declared.Verdict.{Verdict}
 use Rattle.task_reader.proofs.line.read_lines.Statement.{statement}
 use Rattle.task_reader.proofs.line.read_lines.Tie as tie
 

@@ -4,7 +4,7 @@ use native.Mathlib.Omega.{arith}
 use lib.ListN.{length}
 use borrow.Author.Needs.{needs}
 use Rattle.task_format.specs.Render.{valueText}
-use Rattle.task_format.specs.Value.{Holds, Modest}
+use Rattle.task_format.specs.Value.{OfKind, Modest}
 use Rattle.task_format.specs.declared.Kind.{Kind}
 use Rattle.task_writer.proofs.lines.put_value.Statement.{statement}
 use Rattle.task_writer.proofs.lines.put_value.Tie as tie
@@ -19,7 +19,7 @@ cast-put-digits c =
     let e = c .before .enum-told .given .1 in
     let z = ap (λ (k : Kind). valueText k (a .x)) e in
     let m = subst Modest e (p .0) in
-    let h = subst (λ (k : Kind). Holds k (a .x)) e (p .1 .0) in
+    let h = subst (λ (k : Kind). OfKind k (a .x)) e (p .1 .0) in
     omega (arith, m, h .1)
 
 put-digits-requires : tie.Need-put-digits-requires
@@ -30,7 +30,7 @@ put-digits-requires c κs =
     let e = c .before .enum-told .given .1 in
     let z = ap (λ (k : Kind). valueText k (a .x)) e in
     let m = subst Modest e (p .0) in
-    let h = subst (λ (k : Kind). Holds k (a .x)) e (p .1 .0) in
+    let h = subst (λ (k : Kind). OfKind k (a .x)) e (p .1 .0) in
     (omega arith, (omega arith, (omega (arith, m, h .1), omega (arith, p .1 .1, ap length z))))
 
 same-length : tie.Need-same-length
@@ -56,7 +56,7 @@ put-list-requires c κs =
     let e = c .before .before .kind .given .1 in
     let z = ap (λ (k : Kind). valueText k (a .x)) e in
     let m = subst Modest e (p .0) in
-    let h = subst (λ (k : Kind). Holds k (a .x)) e (p .1 .0) in
+    let h = subst (λ (k : Kind). OfKind k (a .x)) e (p .1 .0) in
     (m, omega (arith, p .1 .1, ap length z))
 
 same-length-2 : tie.Need-same-length-2

@@ -9,19 +9,19 @@ use lib.ListN.{length, length-append}
 use Rattle.strips.specs.Limits.{maxFacts}
 use Rattle.task_format.specs.Limits.{maxDigits}
 use Rattle.task_format.specs.Text.{newline, comma, parts}
-use Rattle.task_format.specs.Value.{All, IsNumber, decimal, members, InForm, InRange, Rising, setOf, content, Holds, Modest}
+use Rattle.task_format.specs.Value.{All, IsNumber, decimal, members, InForm, InRange, Ascending, setOf, content, OfKind, Modest}
 use Rattle.task_format.specs.Render.{digits, factsOf, listed, valueText}
 use Rattle.task_format.specs.Parse.{fault}
 use Rattle.task_format.specs.Laws.Digits.{digits-some}
 use Rattle.task_format.specs.Laws.Value.{members-some}
 use Rattle.task_format.specs.Laws.Parse.{fault-form, fault-range, fault-rising, fault-none}
-use Rattle.task_format.specs.Laws.Deciding.{inForm?, inRange?, rising?}
+use Rattle.task_format.specs.Deciders.{inForm?, inRange?, ascending?}
 use Rattle.task_format.specs.declared.Kind.{Kind}
 use Rattle.task_format.specs.declared.Kind.the-variants.{Number, FactList}
 use Rattle.task_format.specs.Laws.Decimal.{Without, all-append, digits-without}
-use Rattle.round_trip.specs.Numbers.{digits-number, digits-say, number-digits}
-use Rattle.round_trip.specs.Pieces.{split-join, parts-one, tail, joined, parts-joined}
-use Rattle.round_trip.specs.Sets.{Above, above, in-range, rise, facts-rise, facts-set, set-facts, set-small}
+use Rattle.round_trip.specs.Laws.Numbers.{digits-number, digits-say, number-digits}
+use Rattle.round_trip.specs.Laws.Pieces.{split-join, parts-one, tail, joined, parts-joined}
+use Rattle.round_trip.specs.Laws.Sets.{Above, above, in-range, rise, facts-rise, facts-set, set-facts, set-small}
 
 -- each number has at most five digits
 abbrev Small : List ℕ → Type 0
@@ -77,10 +77,10 @@ listed-members (m ∷ ms) s =
 pub record Fine (kind : Kind) (v : List ℕ) : Type 0 where
   pub form : InForm kind v
   pub range : InRange kind v
-  pub rising : Rising kind v
+  pub rising : Ascending kind v
 
-pub value-fine : (kind : Kind) (x : ℕ) → Modest kind → Holds kind x → Fine kind (valueText kind x)
-unfolding valueText InForm InRange Rising
+pub value-fine : (kind : Kind) (x : ℕ) → Modest kind → OfKind kind x → Fine kind (valueText kind x)
+unfolding valueText InForm InRange Ascending
 value-fine (Number low high) x m h =
     let e = digits-say x (omega (arith, h .1)) in
     record { form = digits-number x (omega (arith, h .1)); range = rw e h; rising = tt }
@@ -91,7 +91,7 @@ value-fine (FactList most) x m h =
     let e = listed-members ms s in
     rw (listed-joined ms) (record { form = listed-form ms s; range = rw e (in-range most 0 ms a); rising = rw e (rise most ms a) })
 
-pub value-content : (kind : Kind) (x : ℕ) → Modest kind → Holds kind x → content kind (valueText kind x) ≡ x
+pub value-content : (kind : Kind) (x : ℕ) → Modest kind → OfKind kind x → content kind (valueText kind x) ≡ x
 unfolding valueText content
 value-content (Number low high) x m h = digits-say x (omega (arith, h .1))
 value-content (FactList most) x m h =
@@ -113,13 +113,13 @@ list-is (b ∷ v) f =
     (λ a. parts-joined (b ∷ v) ∙ ap joined (all-digits (parts (b ∷ v)) a) ∙ sym (listed-joined (map decimal (parts (b ∷ v))))) f
 
 pub fine-value : (kind : Kind) (v : List ℕ) → Fine kind v → v ≡ valueText kind (content kind v)
-unfolding valueText content InForm InRange Rising
+unfolding valueText content InForm InRange Ascending
 fine-value (Number low high) v f = number-digits v (f .form)
 fine-value (FactList most) v f =
     list-is v (f .form) ∙ ap (listed true) (sym (set-facts most (members v) (above most (members v) (f .range) (f .rising))))
 
-pub fine-holds : (kind : Kind) (v : List ℕ) → Fine kind v → Holds kind (content kind v)
-unfolding content InForm InRange Rising
+pub fine-holds : (kind : Kind) (v : List ℕ) → Fine kind v → OfKind kind (content kind v)
+unfolding content InForm InRange Ascending
 fine-holds (Number low high) v f = f .range
 fine-holds (FactList most) v f = set-small most (members v) (above most (members v) (f .range) (f .rising))
 
@@ -129,9 +129,9 @@ pub no-fault : (kind : Kind) (v : List ℕ) → Fine kind v → fault kind v ≡
 no-fault kind v f = fault-none kind v (f .form) (f .range) (f .rising)
 
 pub fine : (kind : Kind) (v : List ℕ) → fault kind v ≡ 0 → Fine kind v
-fine kind v e = of (inForm? kind v) (inRange? kind v) (rising? kind v)
+fine kind v e = of (inForm? kind v) (inRange? kind v) (ascending? kind v)
   where
-    of : Dec (InForm kind v) → Dec (InRange kind v) → Dec (Rising kind v) → Fine kind v
+    of : Dec (InForm kind v) → Dec (InRange kind v) → Dec (Ascending kind v) → Fine kind v
     of (yes f) (yes g) (yes h) = record { form = f; range = g; rising = h }
     of (no n) g h = absurd (let z = fault-form kind v n in omega (arith, z, e))
     of (yes f) (no n) h = absurd (let z = fault-range kind v f n in omega (arith, z, e))
@@ -149,7 +149,7 @@ joined-plain [] s = tt
 joined-plain (m ∷ ms) s =
     all-append (λ b. b ≡ newline → ⊥) (digits m) _ (digits-without newline (omega arith) (digits m) (digits-number m (s .0) .digits)) (tail-plain ms (s .1))
 
-pub value-plain : (kind : Kind) (x : ℕ) → Modest kind → Holds kind x → Without newline (valueText kind x)
+pub value-plain : (kind : Kind) (x : ℕ) → Modest kind → OfKind kind x → Without newline (valueText kind x)
 unfolding valueText
 value-plain (Number low high) x m h = digits-without newline (omega arith) (digits x) (digits-number x (omega (arith, h .1)) .digits)
 value-plain (FactList most) x m h = let ms = factsOf most 1 x in rw (listed-joined ms) (joined-plain ms (small most 0 ms m (facts-rise most x)))

@@ -11,7 +11,7 @@ use borrow.Author.Tests.{eq-eqb, ltb-true, ltb-false, leb-true, leb-false, eqb-t
 use Rattle.strips.specs.Task.{Valid}
 use Rattle.strips.specs.declared.Task.{Task}
 use Rattle.task_format.specs.Text.{newline, begins, split, lines}
-use Rattle.task_format.specs.Value.{content, Holds}
+use Rattle.task_format.specs.Value.{content, OfKind}
 use Rattle.task_format.specs.Lines.{keyOf, kindOf, lastLine, field, stored}
 use Rattle.task_format.specs.Parse.{Read, refused, accepted, fault, judged, follow}
 use Rattle.task_format.specs.Render.{valueText, lineText, linesText}
@@ -21,10 +21,10 @@ use Rattle.task_format.specs.Laws.Parse.{judged-yes, judged-no, follow-end, fol
 use Rattle.task_format.specs.Laws.Text.{key-of}
 use Rattle.task_format.specs.Laws.Decimal.{Without, all-append}
 use Rattle.task_format.specs.declared.Kind.{Kind}
-use Rattle.round_trip.specs.Pieces.{split-join, ended, Last, last-of, last-behind}
-use Rattle.round_trip.specs.Values.{Fine, value-fine, value-content, fine-value, fine-holds, no-fault, fine, value-plain}
-use Rattle.round_trip.specs.Fields.{found-field, kept-field}
-use Rattle.round_trip.specs.Built.{Built, place, built-stored, due-stored, facts-kept, kind-same, Agree, task-same}
+use Rattle.round_trip.specs.Laws.Pieces.{split-join, ended, Last, last-of, last-behind}
+use Rattle.round_trip.specs.Laws.Values.{Fine, value-fine, value-content, fine-value, fine-holds, no-fault, fine, value-plain}
+use Rattle.round_trip.specs.Laws.Fields.{found-field, kept-field}
+use Rattle.round_trip.specs.Laws.Built.{Built, place, built-stored, due-stored, facts-kept, kind-same, Agree, task-same}
 
 -- k lines from line n on, without their newlines
 unfoldable pub bodies : ℕ → ℕ → Task → List (List ℕ)
@@ -114,8 +114,8 @@ module _ (t : Task) (v : Valid t) where
       subst (λ (k : ℕ). field (stored g n x) k ≡ field t k) (sym i) (found-field g x n h (place g n d b)))
       (λ e. let i : j < n = omega (arith, eqb-false j n e) in kept-field g x n h j p i (place g n d b) ∙ a j p i)
 
-  holds-next : (n : ℕ) (g : Task) → 1 ≤ n → n ≤ lastLine t → Agree n g t → Holds (kindOf (g .facts) n) (field t n)
-  holds-next n g h l a = subst (λ (k : Kind). Holds k (field t n)) (sym (kind-same (g .facts) (t .facts) n h (facts-agree n g a))) (field-holds t v n h l)
+  holds-next : (n : ℕ) (g : Task) → 1 ≤ n → n ≤ lastLine t → Agree n g t → OfKind (kindOf (g .facts) n) (field t n)
+  holds-next n g h l a = subst (λ (k : Kind). OfKind k (field t n)) (sym (kind-same (g .facts) (t .facts) n h (facts-agree n g a))) (field-holds t v n h l)
 
   pub follow-bodies : (k n : ℕ) (g : Task) → 1 ≤ n → k + n ≡ lastLine t + 1 → Built n g → Agree n g t → follow (bodies k n t) n g ≡ accepted t
   unfolding bodies

@@ -12,7 +12,7 @@ use Rattle.strips.specs.Task.{idle, Proper, Valid}
 use Rattle.strips.specs.declared.Action.{Action}
 use Rattle.strips.specs.declared.Task.{Task}
 use Rattle.task_format.specs.Choice.{pick}
-use Rattle.task_format.specs.Value.{Holds}
+use Rattle.task_format.specs.Value.{OfKind}
 use Rattle.task_format.specs.Lines.{kindOf, lastLine, partOf, actionOf, actionField, withAction, field, stored}
 use Rattle.task_format.specs.Parse.{zeros}
 use Rattle.task_format.specs.Laws.Choice.{by-test, either}
@@ -20,7 +20,7 @@ use Rattle.task_format.specs.Laws.Fields.{by-line}
 use Rattle.task_format.specs.Laws.Lines.{other, field-rest, kind-rest, stored-rest}
 use Rattle.task_format.specs.declared.Kind.{Kind}
 use Rattle.task_format.specs.declared.Kind.the-variants.{Number, FactList}
-use Rattle.round_trip.specs.Fields.{action-same, Place, head-kept, found-field, kept-field}
+use Rattle.round_trip.specs.Laws.Fields.{action-same, Place, head-kept, found-field, kept-field}
 
 -- before line n is read, the places of actions whose lines are not yet reached, and those beyond the counts, are unused
 pub record Tame (n : ℕ) (g : Task) : Type 0 where
@@ -32,7 +32,7 @@ pub record Tame (n : ℕ) (g : Task) : Type 0 where
 -- and the fields of the lines before it are in their ranges
 pub record Built (n : ℕ) (g : Task) : Type 0 where
   pub tame : Tame n g
-  pub holds : (j : ℕ) → 1 ≤ j → j < n → Holds (kindOf (g .facts) j) (field g j)
+  pub holds : (j : ℕ) → 1 ≤ j → j < n → OfKind (kindOf (g .facts) j) (field g j)
 
 -- ---- the start
 
@@ -106,20 +106,20 @@ kind-same f e zero h s = absurd (omega arith)
 kind-same f e (suc zero) h s = refl
 kind-same f e (suc (suc n)) h s = rw (s (omega arith)) refl
 
-module _ (g : Task) (n x : ℕ) (o : 1 ≤ n) (l : n ≤ lastLine g) (b : Built n g) (h : Holds (kindOf (g .facts) n) x) where
+module _ (g : Task) (n x : ℕ) (o : 1 ≤ n) (l : n ≤ lastLine g) (b : Built n g) (h : OfKind (kindOf (g .facts) n) x) where
   pub facts-kept : 2 ≤ n → stored g n x .facts ≡ g .facts
   unfolding field
   facts-kept m = kept-field g x n o 1 (omega arith) (omega arith) (place g n l b)
 
-  holds-stored : (j : ℕ) → 1 ≤ j → j < n + 1 → Holds (kindOf (stored g n x .facts) j) (field (stored g n x) j)
+  holds-stored : (j : ℕ) → 1 ≤ j → j < n + 1 → OfKind (kindOf (stored g n x .facts) j) (field (stored g n x) j)
   holds-stored j a c =
       let k = kind-same (stored g n x .facts) (g .facts) j a (λ m. facts-kept (omega arith)) in
-      subst (λ (q : Kind). Holds q (field (stored g n x) j)) (sym k)
+      subst (λ (q : Kind). OfKind q (field (stored g n x) j)) (sym k)
       (either (eqb j n)
       (λ e. let d = eqb-true j n e in
-      subst (λ (i : ℕ). Holds (kindOf (g .facts) i) (field (stored g n x) i)) (sym d) (subst (Holds (kindOf (g .facts) n)) (sym (found-field g x n o (place g n l b))) h))
+      subst (λ (i : ℕ). OfKind (kindOf (g .facts) i) (field (stored g n x) i)) (sym d) (subst (OfKind (kindOf (g .facts) n)) (sym (found-field g x n o (place g n l b))) h))
       (λ e. let d : j < n = omega (arith, eqb-false j n e) in
-      subst (Holds (kindOf (g .facts) j)) (sym (kept-field g x n o j a d (place g n l b))) (b .holds j a d)))
+      subst (OfKind (kindOf (g .facts) j)) (sym (kept-field g x n o j a d (place g n l b))) (b .holds j a d)))
 
   pub built-stored : Built (n + 1) (stored g n x)
   built-stored = record { tame = tame-stored g x n o l b; holds = holds-stored }
@@ -154,10 +154,10 @@ follower-at g i r h =
     field-at g (g .«leader_count» + i) r h ∙ rw (le-ltb (g .«leader_count» + i) (g .«leader_count») (omega arith), e) refl
 
 module _ (t : Task) (b : Built (lastLine t + 1) t) where
-  part-holds : (i r : ℕ) → r < 4 → i < t .«leader_count» + t .«follower_count» → Holds (pick (eqb r 2) (Number 0 maxCost) (FactList (t .facts))) (field t (lineOf i r))
+  part-holds : (i r : ℕ) → r < 4 → i < t .«leader_count» + t .«follower_count» → OfKind (pick (eqb r 2) (Number 0 maxCost) (FactList (t .facts))) (field t (lineOf i r))
   part-holds i r h l =
       let e : lineOf i r % 4 ≡ r = omega arith in
-      subst (λ (k : Kind). Holds k (field t (lineOf i r)))
+      subst (λ (k : Kind). OfKind k (field t (lineOf i r)))
       (kind-rest (lineOf i r) (other (lineOf i r) (omega arith)) (t .facts) ∙ ap (λ (m : ℕ). pick (eqb m 2) (Number 0 maxCost) (FactList (t .facts))) e)
       (b .holds (lineOf i r) (omega arith) (omega arith))
 

@@ -8,10 +8,10 @@ use native.Mathlib.Omega.{arith}
 use lib.Dec.{eqb, leb}
 use lib.ListN.{length, getD}
 use borrow.Author.Tests.{eqb-true, eqb-false, leb-true, leb-false}
-use Rattle.strips.specs.Laws.Validity.{when?}
+use Rattle.strips.specs.Decision.{when?, equivalent?}
 use Rattle.task_format.specs.Limits.{maxDigits}
 use Rattle.task_format.specs.Text.{zeroDigit, parts}
-use Rattle.task_format.specs.Value.{All, IsNumber, decimal, members, RisesFrom, Rises, Between, InForm, InRange, Rising}
+use Rattle.task_format.specs.Value.{All, IsNumber, decimal, members, RisesFrom, Rises, Between, InForm, InRange, Ascending}
 use Rattle.task_format.specs.declared.Kind.{Kind}
 use Rattle.task_format.specs.declared.Kind.the-variants.{Number, FactList}
 
@@ -33,10 +33,6 @@ unfoldable pub true? : (t : Bool) → Dec (t ≡ true)
 true? true = yes refl
 true? false = no (λ e. let z : _≡_ {A = ℕ} 0 1 = cc in omega arith)
 
-unfoldable pub through? : {P Q : Type 0} → (P → Q) → (Q → P) → Dec P → Dec Q
-through? f g (yes p) = yes (f p)
-through? f g (no n) = no (λ q. n (g q))
-
 unfoldable pub either? : {P Q : Type 0} → Dec P → Dec Q → Dec (P ⊎ Q)
 either? (yes p) d = yes (inl p)
 either? (no n) (yes q) = yes (inr q)
@@ -55,9 +51,8 @@ between? low high n = Dec·and (le? low n) (le? n high)
 
 unfoldable pub number? : (v : List ℕ) → Dec (IsNumber v)
 number? v =
-    through?
-    (λ w. record { some = w .0; few = w .1 .0; digits = w .1 .1 .0; plain = w .1 .1 .1 })
-    (λ n. (n .some, (n .few, (n .digits, n .plain))))
+    equivalent?
+    (λ w. record { some = w .0; few = w .1 .0; digits = w .1 .1 .0; plain = w .1 .1 .1 }, λ n. (n .some, (n .few, (n .digits, n .plain))))
     (Dec·and (le? 1 (length v)) (Dec·and (le? (length v) maxDigits)
     (Dec·and (all? (between? zeroDigit (zeroDigit + 9)) v) (when? (same? (getD v 0 0) zeroDigit) (same? (length v) 1)))))
 
@@ -79,7 +74,7 @@ unfolding InRange
 inRange? (Number low high) v = between? low high (decimal v)
 inRange? (FactList most) v = all? (between? 1 most) (members v)
 
-unfoldable pub rising? : (kind : Kind) (v : List ℕ) → Dec (Rising kind v)
-unfolding Rising
-rising? (Number low high) v = yes tt
-rising? (FactList most) v = rises? (members v)
+unfoldable pub ascending? : (kind : Kind) (v : List ℕ) → Dec (Ascending kind v)
+unfolding Ascending
+ascending? (Number low high) v = yes tt
+ascending? (FactList most) v = rises? (members v)

@@ -1,0 +1,2 @@
+-- What is proved about refusals.
+pub mod Refusal
