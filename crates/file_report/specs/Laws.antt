@@ -1,2 +1,3 @@
 -- What is proved about the answers.
 pub mod Answer
+pub mod Printed

@@ -1,3 +1,4 @@
--- What the answer to a text is; `Laws` has what is proved about it.
+-- What the answer to a text is, and what is printed of it; `Laws` has what is proved about them.
 pub mod Answer
+pub mod Printed
 pub mod Laws

@@ -1,11 +1,16 @@
-// The report of a text: in lent working slices and a lent plan slice, and in those of the program's own.
+// The report of a text: in lent working slices and a lent plan slice, and what is printed of it with what the program lends.
+ghost use mathlib.Core.Path.{_≡_};
+ghost use lib.ListN.{replicate};
 ghost use Rattle.task_format.specs.Parse.{parse};
 ghost use Rattle.listing.specs.Slices.{slices};
 ghost use Rattle.printing.specs.Reported.{returned};
 ghost use Rattle.file_report.specs.Answer.{AnsweredIn, Answered};
+ghost use Rattle.file_report.specs.Printed.{inputBytes, AnswerPut};
 use report::Reported;
 use report::print;
+use report_text::put_refusal;
 use strips::MAX_FOLLOWER;
+use task_format::MAX_TEXT;
 use task_reader::Verdict;
 use task_reader::read;
 
@@ -15,6 +20,11 @@ const PLACES: usize = 1_024;
 const ENTRIES: usize = 128;
 
 const PLAN_NUMBERS: usize = 4_096;
+
+// Bytes that are read of an input, and bytes of what is printed.
+pub const INPUT_BYTES: usize = MAX_TEXT + 1;
+
+pub const OUTPUT_BYTES: usize = 8_192;
 
 // The report of the task that a text says, or the first question that gets no, with room for so many entries.
 pub fn answer_in<'w, 'b>(
@@ -62,7 +72,7 @@ pub fn answer_in<'w, 'b>(
 }
 
 // The same with what the program lends.
-pub fn answer(text: &[u8], output: &mut [u8]) -> Reported
+fn answer(text: &[u8], output: &mut [u8]) -> Reported
     ensures { λ r. ⌜ Answered (parse (now (text .entry))) (now (output .entry)) (now (output .exit)) (returned r) ⌝ }
 {
     let mut states = [0u64; PLACES];
@@ -93,4 +103,26 @@ pub fn answer(text: &[u8], output: &mut [u8]) -> Reported
         &mut plans,
         output,
     )
+}
+
+// Where an input is read to: one byte more than a text may have.
+pub fn blank_input() -> [u8; INPUT_BYTES]
+    ensures { λ r. ⌜ r ≡ replicate inputBytes 0 ⌝ }
+{
+    [0; INPUT_BYTES]
+}
+
+// What the program prints for a text, put at the front of the output: the report of the task that it says, or the two lines of the
+// first question that gets no.
+pub fn answer_text(text: &[u8], output: &mut [u8; OUTPUT_BYTES]) -> usize
+    ensures { λ r. ⌜ AnswerPut (now (text .entry)) (now (output .entry)) (now (output .exit)) r ⌝ }
+{
+    let reported = answer(text, output);
+    match reported {
+        Reported::Written(_, bytes) => bytes,
+        Reported::Refused(refusal) => {
+            let place = refusal.place() as u32;
+            put_refusal(output, refusal.number(), place)
+        }
+    }
 }

@@ -5,6 +5,11 @@ ghost use mathlib.Core.List.{_++_, map};
 ghost use lib.ListN.{length, getD, take, drop};
 ghost use Rattle.search.specs.Limits.{maxPlaces};
 ghost use Rattle.lines.specs.Numbers.{answerMinutes, answerSteps, lineSteps, totalSteps, lineRow, Fitting};
+use pareto::FOLLOWER_STEPS;
+use pareto::LEADER_STEPS;
+use pareto::MARK;
+use pareto::MINUTES;
+use pareto::PRICE;
 use search::KEY_BASE;
 use strips::MAX_FOLLOWER;
 
@@ -68,11 +73,11 @@ pub fn line_row(keys: &[u64], values: &[u64], reached: &[u8], i: usize) -> [u32;
     let minutes = answer_minutes(mark, value);
     let steps = answer_steps(mark, value);
     let mut row = [0u32; MAX_FOLLOWER];
-    row[0] = (key / KEY_BASE) as u32;
-    row[1] = mark as u32;
-    row[2] = minutes as u32;
-    row[3] = (key % KEY_BASE) as u32;
-    row[4] = steps as u32;
+    row[PRICE] = (key / KEY_BASE) as u32;
+    row[MARK] = mark as u32;
+    row[MINUTES] = minutes as u32;
+    row[LEADER_STEPS] = (key % KEY_BASE) as u32;
+    row[FOLLOWER_STEPS] = steps as u32;
     row
 }
 

@@ -7,13 +7,29 @@ use Rattle.outcome.specs.declared.Answer.{Answer}
 use Rattle.outcome.specs.declared.Answer.the-variants.{Cost, None}
 use Rattle.pareto.specs.declared.Entry.{Entry}
 
+-- the numbers of a row, each at its place
+abbrev pub rowPrice : List ℕ → ℕ
+rowPrice row = getD row 0 0
+
+abbrev pub rowMark : List ℕ → ℕ
+rowMark row = getD row 1 0
+
+abbrev pub rowMinutes : List ℕ → ℕ
+rowMinutes row = getD row 2 0
+
+abbrev pub leaderSteps : List ℕ → ℕ
+leaderSteps row = getD row 3 0
+
+abbrev pub followerSteps : List ℕ → ℕ
+followerSteps row = getD row 4 0
+
 -- the mark 0 stands for none
 unfoldable pub answerOf : ℕ → ℕ → Answer
 answerOf zero m = None
 answerOf (suc k) m = Cost (record { 0 = m })
 
 unfoldable pub entryOf : List ℕ → Entry
-entryOf row = record { price = record { 0 = getD row 0 0 }; answer = answerOf (getD row 1 0) (getD row 2 0); «leader_steps» = getD row 3 0; «follower_steps» = getD row 4 0 }
+entryOf row = record { price = record { 0 = rowPrice row }; answer = answerOf (rowMark row) (rowMinutes row); «leader_steps» = leaderSteps row; «follower_steps» = followerSteps row }
 
 abbrev pub entryAt : List (List ℕ) → ℕ → Entry
 entryAt rows i = entryOf (getD rows i [])

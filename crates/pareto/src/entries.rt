@@ -10,6 +10,17 @@ use outcome::Minutes;
 use outcome::Price;
 use strips::MAX_FOLLOWER;
 
+// Where the numbers of an entry stand in its row.
+pub const PRICE: usize = 0;
+
+pub const MARK: usize = 1;
+
+pub const MINUTES: usize = 2;
+
+pub const LEADER_STEPS: usize = 3;
+
+pub const FOLLOWER_STEPS: usize = 4;
+
 // The answer of a mark and a number of minutes: none where the mark is 0.
 fn answer_of(mark: u32, minutes: u32) -> Answer
     ensures { λ r. ⌜ r ≡ answerOf mark minutes ⌝ }
@@ -24,12 +35,12 @@ fn answer_of(mark: u32, minutes: u32) -> Answer
 fn entry_of(row: [u32; MAX_FOLLOWER]) -> Entry
     ensures { λ r. ⌜ r ≡ entryOf row ⌝ }
 {
-    let answer = answer_of(row[1], row[2]);
+    let answer = answer_of(row[MARK], row[MINUTES]);
     Entry {
-        price: Price(row[0]),
+        price: Price(row[PRICE]),
         answer,
-        leader_steps: row[3],
-        follower_steps: row[4],
+        leader_steps: row[LEADER_STEPS],
+        follower_steps: row[FOLLOWER_STEPS],
     }
 }
 

@@ -5,6 +5,11 @@ mod entries;
 mod returning;
 mod selection;
 
+pub use entries::FOLLOWER_STEPS;
+pub use entries::LEADER_STEPS;
+pub use entries::MARK;
+pub use entries::MINUTES;
+pub use entries::PRICE;
 pub use entries::take_entries;
 use outcome::Answer;
 use outcome::Price;

@@ -1,4 +1,4 @@
--- The text of a front (document 01: one hall, whole).
+-- The text of a front, and of a refusal (document 01: one hall, whole).
 use mathlib.Core.List.{List, [], _∷_, _++_}
 use Prim.Native.Nat.{ℕ, suc}
 use lib.ListN.{length}
@@ -17,6 +17,12 @@ priceKey = bytes "price="
 
 abbrev pub answerKey : List ℕ
 answerKey = bytes "answer="
+
+abbrev pub refusedKey : List ℕ
+refusedKey = bytes "refused="
+
+abbrev pub lineKey : List ℕ
+lineKey = bytes "line="
 
 -- the word "none"
 abbrev pub noneWord : List ℕ
@@ -62,3 +68,7 @@ headText count = printed entriesKey (numeral count)
 
 unfoldable pub reportText : List Line → List ℕ
 reportText ls = headText (length ls) ++ linesText ls
+
+-- the two printed lines of a refusal
+unfoldable pub refusalText : (number place : ℕ) → List ℕ
+refusalText number place = printed refusedKey (numeral number) ++ printed lineKey (numeral place)

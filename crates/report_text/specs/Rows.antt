@@ -2,11 +2,11 @@
 use mathlib.Core.Path.{_≡_}
 use mathlib.Core.List.{List, [], _∷_, _++_, map}
 use Prim.Native.Nat.{ℕ, _+_, _≤_}
-use lib.ListN.{length, getD, take, drop}
+use lib.ListN.{length, take, drop}
 use Rattle.outcome.specs.Answer.{Value, valueOf}
 use Rattle.search.specs.Limits.{maxPlaces}
 use Rattle.pareto.specs.Front.{Line}
-use Rattle.pareto.specs.Entries.{answerOf, entryOf}
+use Rattle.pareto.specs.Entries.{rowPrice, rowMark, rowMinutes, leaderSteps, followerSteps, answerOf, entryOf}
 use Rattle.pareto.specs.Layout.{entryFor, plansFor}
 use Rattle.report_text.specs.Report.{lineText, reportText}
 
@@ -16,18 +16,15 @@ rowAnswer mark minutes = valueOf (answerOf mark minutes)
 
 -- the line of an entry's numbers with these plans
 abbrev pub rowLine : List ℕ → List ℕ → List ℕ → Line
-rowLine row p q = record { price = getD row 0 0; answer = rowAnswer (getD row 1 0) (getD row 2 0); leader-plan = p; follower-plan = q }
+rowLine row p q = record { price = rowPrice row; answer = rowAnswer (rowMark row) (rowMinutes row); leader-plan = p; follower-plan = q }
 
 -- the bytes of an entry's line apart from its plans
 unfoldable pub entryBytes : List ℕ → ℕ
 entryBytes row = length (lineText (rowLine row [] []))
 
--- how many plan numbers an entry's line has, the leader plan's and both plans'
-abbrev pub leaderSteps : List ℕ → ℕ
-leaderSteps row = getD row 3 0
-
+-- how many plan numbers an entry's line has
 abbrev pub rowSteps : List ℕ → ℕ
-rowSteps row = leaderSteps row + getD row 4 0
+rowSteps row = leaderSteps row + followerSteps row
 
 unfoldable pub rowsSteps : List (List ℕ) → ℕ
 rowsSteps [] = 0
@@ -35,7 +32,7 @@ rowsSteps (row ∷ rows) = rowSteps row + rowsSteps rows
 
 -- an entry's line with the plans at the front of the plan numbers, the leader's before the follower's
 unfoldable pub lineAt : List ℕ → List ℕ → Line
-lineAt row plans = rowLine row (take (leaderSteps row) plans) (take (getD row 4 0) (drop (leaderSteps row) plans))
+lineAt row plans = rowLine row (take (leaderSteps row) plans) (take (followerSteps row) (drop (leaderSteps row) plans))
 
 -- the lines of rows, whose plans stand one after another
 unfoldable pub linesAt : List (List ℕ) → List ℕ → List Line

@@ -6,6 +6,9 @@ ghost use Rattle.search.specs.Limits.{maxPlaces};
 ghost use Rattle.text_output.specs.Puts.{numberDigits};
 ghost use Rattle.report_text.specs.Report.{numeral, planText, answerText, headText};
 ghost use Rattle.report_text.specs.Rows.{rowAnswer, entryBytes};
+use pareto::MARK;
+use pareto::MINUTES;
+use pareto::PRICE;
 use strips::MAX_FOLLOWER;
 
 pub fn digit_count(n: u32) -> usize
@@ -50,7 +53,7 @@ fn answer_bytes(mark: u32, minutes: u32) -> usize
 pub fn entry_bytes(row: [u32; MAX_FOLLOWER]) -> usize
     ensures { λ r. ⌜ (r ≡ entryBytes row) × (r ≤ 31 + 2 * numberDigits) ⌝ }
 {
-    31 + digit_count(row[0]) + answer_bytes(row[1], row[2])
+    31 + digit_count(row[PRICE]) + answer_bytes(row[MARK], row[MINUTES])
 }
 
 // The first printed line: 9 bytes are its key and newline.

@@ -1,4 +1,5 @@
-// The text of a front: its bytes, counted and put into a lent slice. What the text is stands in specs/Report.antt.
+// The text of a front: its bytes, counted and put into a lent slice; and the text of a refusal. What they are stands in
+// specs/Report.antt.
 mod counting;
 mod putting;
 
@@ -6,4 +7,5 @@ pub use counting::digit_count;
 pub use counting::entry_bytes;
 pub use counting::head_bytes;
 pub use counting::plan_bytes;
+pub use putting::put_refusal;
 pub use putting::put_report;

@@ -6,8 +6,13 @@ ghost use lib.ListN.{length, take, drop};
 ghost use Rattle.task_format.specs.Text.{comma};
 ghost use Rattle.text_output.specs.Puts.{Puts};
 ghost use Rattle.pareto.specs.Front.{Line};
-ghost use Rattle.report_text.specs.Report.{answerKey, numeral, planText, answerText, printed, lineText, linesText};
+ghost use Rattle.report_text.specs.Report.{answerKey, numeral, planText, answerText, printed, lineText, linesText, refusalText};
 ghost use Rattle.report_text.specs.Rows.{rowAnswer, rowLine, rowSteps, rowsSteps, lineAt, linesAt, Describes, Ready, ReportPut};
+use pareto::FOLLOWER_STEPS;
+use pareto::LEADER_STEPS;
+use pareto::MARK;
+use pareto::MINUTES;
+use pareto::PRICE;
 use strips::MAX_FOLLOWER;
 use text_output::NUMBER_DIGITS;
 use text_output::put_bytes;
@@ -97,8 +102,8 @@ fn put_line(
     requires { ⌜ at + length (lineText (rowLine row (now outages) (now moves))) ≤ length (now out) ⌝ }
     ensures { λ r. ⌜ Puts (lineText (rowLine row (now (outages .entry)) (now (moves .entry)))) at (now (out .entry)) (now (out .exit)) r ⌝ }
 {
-    let answer_at = put_number_line(out, at, b"price=", row[0]);
-    let outages_at = put_answer_line(out, answer_at, row[1], row[2]);
+    let answer_at = put_number_line(out, at, b"price=", row[PRICE]);
+    let outages_at = put_answer_line(out, answer_at, row[MARK], row[MINUTES]);
     let moves_at = put_plan_line(out, outages_at, b"outages=", outages);
     put_plan_line(out, moves_at, b"moves=", moves)
 }
@@ -114,8 +119,8 @@ fn put_entry(
     requires { ⌜ (from + rowSteps row ≤ length (now plans)) × (at + length (lineText (lineAt row (drop from (now plans)))) ≤ length (now out)) ⌝ }
     ensures { λ r. ⌜ Puts (lineText (lineAt row (drop from (now (plans .entry))))) at (now (out .entry)) (now (out .exit)) r ⌝ }
 {
-    let moves_from = from + row[3] as usize;
-    let end = moves_from + row[4] as usize;
+    let moves_from = from + row[LEADER_STEPS] as usize;
+    let end = moves_from + row[FOLLOWER_STEPS] as usize;
     put_line(
         out,
         at,
@@ -149,7 +154,7 @@ fn put_entries(
     while k < count {
         let row = rows[k];
         at = put_entry(out, at, row, plans, from);
-        from += line_steps(row[3], row[4]);
+        from += line_steps(row[LEADER_STEPS], row[FOLLOWER_STEPS]);
         k += 1;
     }
     at
@@ -167,4 +172,13 @@ pub fn put_report(
 {
     let at = put_number_line(text, 0, b"entries=", count as u32);
     put_entries(text, at, rows, count, plans)
+}
+
+// The two lines of a refusal, from the first place on.
+pub fn put_refusal(out: &mut [u8], number: u32, place: u32) -> usize
+    requires { ⌜ length (refusalText number place) ≤ length (now out) ⌝ }
+    ensures { λ r. ⌜ Puts (refusalText number place) 0 (now (out .entry)) (now (out .exit)) r ⌝ }
+{
+    let line_at = put_number_line(out, 0, b"refused=", number);
+    put_number_line(out, line_at, b"line=", place)
 }

@@ -31,19 +31,6 @@ use Rattle.printing.specs.Laws.Unique.{outcome-unique, promised-unique}
 use Rattle.file_report.specs.Answer.{AnsweredIn, refuses-text, reports-task, places, room, planNumbers, Answered, refuses, reports}
 
 module _ {t : Task} {text : List ℕ} where
-  -- what is written fits
-  told-bytes : {n : ℕ} {entries entries′ : List Entry} {plans plans′ text′ : List ℕ} {r : Returned} → Told t n entries plans text r entries′ plans′ text′ → r .bytes ≤ length text
-  told-bytes (too-many f) = omega arith
-  told-bytes (no-entries f a b) = omega arith
-  told-bytes (no-plans f a b c) = omega arith
-  told-bytes (no-text f a b c d) = omega arith
-  told-bytes (tells f a b c d) = d
-
-  outcome-bytes : {sizes : List ℕ} {entries entries′ : List Entry} {plans plans′ text′ : List ℕ} {r : Returned} → Outcome t sizes entries plans text r entries′ plans′ text′ → r .bytes ≤ length text
-  outcome-bytes (refused-8 f) = omega arith
-  outcome-bytes (refused-9 f g) = omega arith
-  outcome-bytes (tells-front f g d) = told-bytes d
-
   -- what is written is the report of the front
   told-report : {n : ℕ} {entries entries′ : List Entry} {plans plans′ text′ : List ℕ} {r : Returned} → Told t n entries plans text r entries′ plans′ text′ → r .number ≡ 0 → {lines : List Line} → Front t lines → take (r .bytes) text′ ≡ reportText lines
   told-report (too-many f) z g = absurd (omega arith)
@@ -57,27 +44,7 @@ module _ {t : Task} {text : List ℕ} where
   outcome-report (refused-9 f h) z g = absurd (omega arith)
   outcome-report (tells-front f h d) z g = told-report d z g
 
-answered-bytes : {read : Read} {output output′ : List ℕ} {r : Returned} → Answered read output output′ r → r .bytes ≤ length output
-answered-bytes (refuses f) = omega arith
-answered-bytes (reports z a) = outcome-bytes (a .outcome)
-
-pub written-bytes : {read : Read} {output output′ : List ℕ} {p : Reported} {k b : ℕ} → p ≡ Written k b → Answered read output output′ (returned p) → b ≤ length output
-unfolding returned
-written-bytes e a = omega (arith, answered-bytes a, ap (λ (p : Reported). returned p .bytes) e)
-
--- after success the output begins with the report of the front
-pub answered-report : {read : Read} {output output′ : List ℕ} {r : Returned} → Answered read output output′ r → r .number ≡ 0 → {lines : List Line} → Front (read .task) lines → take (r .bytes) output′ ≡ reportText lines
-answered-report (refuses f) z g = absurd (omega arith)
-answered-report (reports y a) z g = outcome-report (a .outcome) z g
-
--- two answers to one text agree in what is returned and in the output
-pub answered-unique : {read : Read} {output x y : List ℕ} {r u : Returned} → Answered read output x r → Answered read output y u → (r ≡ u) × (x ≡ y)
-answered-unique (refuses f) (refuses g) = (refl, refl)
-answered-unique (refuses f) (reports z a) = absurd (omega arith)
-answered-unique (reports z a) (refuses f) = absurd (omega arith)
-answered-unique (reports z a) (reports y b) = let same = outcome-unique (a .outcome) (b .outcome) in (same .0, same .3)
-
--- the same two laws in lent slices: all of these agree
+-- two answers to one text agree in what is returned and in every lent slice
 pub answered-in-unique : {read : Read} {w w₁ w₂ : Slices} {room : ℕ} {plans p q output x y : List ℕ} {r u : Returned} → AnsweredIn read w w₁ room plans p output x r → AnsweredIn read w w₂ room plans q output y u
     → (r ≡ u) × (p ≡ q) × (x ≡ y) × (w₁ ≡ w₂)
 answered-in-unique (refuses-text f) (refuses-text g) = (refl, refl, refl, refl)
@@ -91,29 +58,9 @@ answered-in-report (refuses-text f) z g = absurd (omega arith)
 answered-in-report (reports-task y a) z g = outcome-report (a .promised .outcome) z g
 
 -- question 8 gets yes
-lent-right : (k n : ℕ) → List·Memᴰ n (replicate k places) → (1 ≤ n) × (n ≤ maxPlaces)
+pub lent-right : (k n : ℕ) → List·Memᴰ n (replicate k places) → (1 ≤ n) × (n ≤ maxPlaces)
 lent-right zero n m = absurd (List·Memᴰ·not-nil m)
 lent-right (suc k) n m = ⊎-elim (λ e. (omega (arith, e), omega (arith, e))) (lent-right k n) (List·Memᴰ·cases-cons m)
-
--- where reach, lines, plans and text fit what is lent, the output begins with the report of the front
-pub whole-report : (text : List ℕ) {t : Task} {lines : List Line} {output output′ : List ℕ} {r : Returned} → parse text ≡ accepted t → Fits t places → Front t lines → length lines ≤ room
-    → length (plansFor lines) ≤ planNumbers → length (reportText lines) ≤ length output → Answered (parse text) output output′ r → (r .number ≡ 0) × (take (r .bytes) output′ ≡ reportText lines)
-unfolding shortest
-whole-report text {t} {lines} {output} {output′} {r} said fits front few short bytes a =
-    let answered : Answered (accepted t) output output′ r = rw said at a in
-    let entries : length lines ≤ length (replicate room blank) = omega (arith, length-replicate room blank) in
-    let numbers : List ℕ = replicate planNumbers 0 in
-    let plans : length (plansFor lines) ≤ length numbers = omega (arith, length-replicate {A = ℕ} planNumbers 0) in
-    let wanted : Answered (accepted t) output (reportText lines ++ drop (length (reportText lines)) output) (wrote (length lines) (length (reportText lines))) =
-    reports refl (record {
-      entries = map entryFor lines ++ drop (length lines) (replicate room blank);
-      plans = plansFor lines ++ drop (length (plansFor lines)) numbers;
-      outcome = tells-front (lent-right 10) (read-valid text t said) (tells fits front entries plans bytes);
-    })
-    in
-    let same = answered-unique answered wanted in
-    let success : r .number ≡ 0 = ap (λ (u : Returned). u .number) (same .0) in
-    (success, answered-report answered success front)
 
 -- the working slices that are lent
 abbrev lent : Slices

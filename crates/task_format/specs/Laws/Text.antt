@@ -2,7 +2,7 @@
 use mathlib.Core.Path.{_≡_, refl, sym, ap, _∙_}
 use mathlib.Core.Bool.{true}
 use mathlib.Core.List.{List, [], _∷_}
-use Prim.Native.Nat.{ℕ, _%_, _≤_, _<_}
+use Prim.Native.Nat.{ℕ, suc, _%_, _≤_, _<_}
 use native.Mathlib.Omega.{arith}
 use lib.Dec.{eqb}
 use lib.ListN.{length, drop}
@@ -22,6 +22,18 @@ module _ (c : ℕ) (end : List (List ℕ)) where
   pub split-more : (b : ℕ) (t : List ℕ) → (b ≡ c → ⊥) → split c end (b ∷ t) ≡ push b (split c end t)
   unfolding split
   split-more b t n = rw (ne-eqb b c n)
+
+push-few : (b : ℕ) (ps : List (List ℕ)) → length (push b ps) ≤ suc (length ps)
+push-few b [] = omega arith
+push-few b (p ∷ ps) = omega arith
+
+-- there are no more lines than bytes
+pub lines-few : (t : List ℕ) → length (lines t) ≤ length t
+unfolding split
+lines-few [] = omega arith
+lines-few (b ∷ t) =
+    let rest = split newline [] t in
+    by-test (λ (ls : List (List ℕ)). length ls ≤ suc (length t)) (eqb b newline) ([] ∷ rest) (push b rest) (λ _. omega (arith, lines-few t)) (λ _. omega (arith, lines-few t, push-few b rest))
 
 -- ---- the parts of a list
 

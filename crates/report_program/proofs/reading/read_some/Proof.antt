@@ -1,9 +1,9 @@
--- `hall_report::reading::read_some` meets its contract.
+-- `report_program::reading::read_some` meets its contract.
 use native.Mathlib.Omega.{arith}
 use borrow.Author.Needs.{needs}
-use Rattle.hall_report.specs.Input.{taken}
-use Rattle.hall_report.proofs.reading.read_some.Statement.{statement}
-use Rattle.hall_report.proofs.reading.read_some.Tie as tie
+use Rattle.report_program.specs.Input.{taken}
+use Rattle.report_program.proofs.reading.read_some.Statement.{statement}
+use Rattle.report_program.proofs.reading.read_some.Tie as tie
 
 read-requires : tie.Need-read-requires
 read-requires c κs = search needs

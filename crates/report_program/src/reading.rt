@@ -1,7 +1,7 @@
 // Standard input, read into a lent slice.
 ghost use Prim.Native.Nat.{_+_, _≤_};
 ghost use lib.ListN.{length};
-ghost use Rattle.hall_report.specs.Input.{taken};
+ghost use Rattle.report_program.specs.Input.{taken};
 use libc::STDIN_FILENO;
 
 // The bytes read, or that reading failed.

@@ -1,12 +1,12 @@
--- `hall_report::reading::read_input` meets its contract.
+-- `report_program::reading::read_input` meets its contract.
 use mathlib.Core.Path.{_≡_, ap}
 use Prim.Native.Nat.{_-_, _≤_}
 use native.Mathlib.Omega.{arith}
 use lib.ListN.{length}
 use borrow.Author.Needs.{needs}
-use Rattle.hall_report.specs.Input.{taken}
-use Rattle.hall_report.proofs.reading.read_input.Statement.{statement}
-use Rattle.hall_report.proofs.reading.read_input.Tie as tie
+use Rattle.report_program.specs.Input.{taken}
+use Rattle.report_program.proofs.reading.read_input.Statement.{statement}
+use Rattle.report_program.proofs.reading.read_input.Tie as tie
 
 abbrev Inv-loop : tie.InvT-loop
 Inv-loop bytes₀ done₀ bytes done = (length bytes ≡ length bytes₀) × (done ≤ length bytes₀)
