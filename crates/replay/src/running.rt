@@ -1,8 +1,10 @@
 // The replay of a leader plan and then a follower plan: questions 9 to 12, both costs and the end state.
 ghost use mathlib.Core.Path.{_≡_};
+ghost use Prim.Native.Nat.{_<_};
 ghost use lib.ListN.{take};
+ghost use Rattle.strips.specs.Limits.{maxSteps};
 ghost use Rattle.replay.specs.Replay.{knownSteps, returned, replayed};
-ghost use Rattle.replay.specs.Run.{Runnable, Stopped, Numbered};
+ghost use Rattle.replay.specs.Run.{Advanced, Runnable, Stopped, Numbered};
 use crate::Ended;
 use crate::Replayed;
 use outcome::Minutes;
@@ -36,40 +38,68 @@ fn known_steps(plan: &[u8], count: usize) -> usize
     i
 }
 
-// Where running a plan stopped: after how many steps, in which state, at what cost.
-pub struct Stop {
+// Whose plan is run: the leader's costs a price, the follower's minutes.
+pub enum Player {
+    Leader,
+    Follower,
+}
+
+// How far a plan has been run: how many steps, to which state, at what price or in how many minutes.
+pub struct Progress {
     pub steps: usize,
     pub state: u64,
-    pub cost: u32,
+    pub price: Price,
+    pub minutes: Minutes,
+}
+
+// One step more, by an action of the player: its cost is added to the player's own kind.
+fn advance(at: Progress, player: Player, action: Action) -> Progress
+    requires { ⌜ at .steps < maxSteps ⌝ }
+    ensures { λ r. ⌜ Advanced player action at r ⌝ }
+{
+    let steps = at.steps + 1;
+    let state = successor(action, at.state);
+    let mut price = at.price;
+    let mut minutes = at.minutes;
+    match player {
+        Player::Leader => price = price.plus(Price(action.cost)),
+        Player::Follower => minutes = minutes.plus(Minutes(action.cost)),
+    }
+    Progress {
+        steps,
+        state,
+        price,
+        minutes,
+    }
 }
 
 // Runs the plan up to its end or to the first step that does not apply.
-fn run(actions: [Action; MAX_FOLLOWER], count: usize, start: u64, plan: &[u8]) -> Stop
+fn run(
+    player: Player,
+    actions: [Action; MAX_FOLLOWER],
+    count: usize,
+    start: u64,
+    plan: &[u8],
+) -> Progress
     requires { ⌜ Runnable actions count (now plan) ⌝ }
-    ensures { λ r. ⌜ Stopped (take count actions) start (now (plan .entry)) r ⌝ }
+    ensures { λ r. ⌜ Stopped player (take count actions) start (now (plan .entry)) r ⌝ }
 {
-    let mut state = start;
-    let mut cost = 0;
-    let mut i = 0;
-    while i < plan.len() {
+    let mut at = Progress {
+        steps: 0,
+        state: start,
+        price: Price(0),
+        minutes: Minutes(0),
+    };
+    while at.steps < plan.len() {
+        let i = at.steps;
         let k = plan[i] as usize;
         let action = actions[k - 1];
-        if !applies(action, state) {
-            return Stop {
-                steps: i,
-                state,
-                cost,
-            };
+        if !applies(action, at.state) {
+            return at;
         }
-        state = successor(action, state);
-        cost += action.cost;
-        i += 1;
+        at = advance(at, player, action);
     }
-    Stop {
-        steps: i,
-        state,
-        cost,
-    }
+    at
 }
 
 // Question 12 and what a replay returns, where questions 9 to 11 have their yes.
@@ -78,18 +108,32 @@ fn replay_known(task: Task, leader_plan: &[u8], follower_plan: &[u8]) -> Replaye
     ensures { λ r. ⌜ returned r ≡ replayed task (now («leader_plan» .entry)) (now («follower_plan» .entry)) ⌝ }
 {
     let leader = task.leader;
-    let first = run(pad(leader), task.leader_count, task.initial, leader_plan);
+    let first = run(
+        Player::Leader,
+        pad(leader),
+        task.leader_count,
+        task.initial,
+        leader_plan,
+    );
     if first.steps < leader_plan.len() {
         return Replayed::Refused(Refusal::NotApplicable(first.steps + 1));
     }
     let follower = task.follower;
-    let second = run(follower, task.follower_count, first.state, follower_plan);
+    let second = run(
+        Player::Follower,
+        follower,
+        task.follower_count,
+        first.state,
+        follower_plan,
+    );
     if second.steps < follower_plan.len() {
         return Replayed::Refused(Refusal::NotApplicable(leader_plan.len() + second.steps + 1));
     }
+    let price = first.price;
+    let minutes = second.minutes;
     Replayed::Ran(Ended {
-        price: Price(first.cost),
-        minutes: Minutes(second.cost),
+        price,
+        minutes,
         state: second.state,
         goal: holds(second.state, task.goal),
     })

@@ -18,7 +18,8 @@ use Rattle.replay.specs.Replay.{Returned, refused, ran, knownSteps, appl
 use Rattle.replay.specs.Run.{Runnable, Stopped, Numbered}
 use Rattle.replay.specs.Laws.Steps.{known-most, applied-most, passes-runs, runs-known, runs-applied, runs-end}
 use Rattle.replay.specs.Laws.Running.{Ended, stopped-ended}
-use Rattle.replay.specs.declared.running.Stop.{Stop}
+use Rattle.replay.specs.declared.running.Player.the-variants.{Leader, Follower}
+use Rattle.replay.specs.declared.running.Progress.{Progress}
 
 pub leader-runnable : {t : Task} {p q : List ℕ} → Numbered t p q → Runnable (padded (t .leader)) (t .«leader_count») p
 leader-runnable {t} n =
@@ -103,22 +104,22 @@ module _ (t : Task) (p q : List ℕ) where
   both-run n e f = asks-12 n ∙ steps-pass 12 0 p _ _ e ∙ steps-pass 12 (length p) q _ _ f
 
   -- the same, as the code finds it: where running each plan stopped
-  module _ (n : Numbered t p q) (r : Stop) (d : Stopped (leaderActions t) (t .initial) p r) where
+  module _ (n : Numbered t p q) (r : Progress) (d : Stopped Leader (leaderActions t) (t .initial) p r) where
     pub stops-leader : r .steps < length p → refused 12 (r .steps + 1) ≡ replayed t p q
     stops-leader h = sym (refuses-12-leader n (rw (← d .steps) h) ∙ ap (λ k. refused 12 (k + 1)) (sym (d .steps)))
 
-    module _ (h : length p ≤ r .steps) (u : Stop) (e : Stopped (followerActions t) (r .state) q u) where
-      leader-ended : Ended (leaderActions t) (t .initial) p r
+    module _ (h : length p ≤ r .steps) (u : Progress) (e : Stopped Follower (followerActions t) (r .state) q u) where
+      leader-ended : Ended Leader (leaderActions t) (t .initial) p r
       leader-ended = stopped-ended (leaderActions t) (t .initial) p r d h
 
-      follower-stopped : Stopped (followerActions t) middle q u
+      follower-stopped : Stopped Follower (followerActions t) middle q u
       follower-stopped = rw (leader-ended .state) at e
 
       pub stops-follower : u .steps < length q → refused 12 (length p + u .steps + 1) ≡ replayed t p q
       stops-follower l =
           sym (refuses-12-follower n (leader-ended .steps) (rw (← follower-stopped .steps) l) ∙ ap (λ k. refused 12 (length p + k + 1)) (sym (follower-stopped .steps)))
 
-      pub ends-both : length q ≤ u .steps → ran (r .cost) (u .cost) (u .state) (says (holds? (u .state) (t .goal))) ≡ replayed t p q
+      pub ends-both : length q ≤ u .steps → ran (r .price .0) (u .minutes .0) (u .state) (says (holds? (u .state) (t .goal))) ≡ replayed t p q
       ends-both l =
           let f = stopped-ended (followerActions t) middle q u follower-stopped l in
           rw (leader-ended .cost, f .cost, f .state) (sym (both-run n (leader-ended .steps) (f .steps)))
