@@ -1,4 +1,4 @@
-// Plans kept as chains of links: which of two comes first, and a plan written out.
+// Not for outsiders. Plans kept as chains of links: which of two comes first, and a plan written out.
 mod links;
 
 pub use links::precedes;

@@ -1,4 +1,4 @@
-// A hash table over states, in one slice: where a state stands in a queue or in the rows of a table.
+// Not for outsiders. A hash table over states, in one slice: where a state stands in a queue or in the rows of a table.
 mod buckets;
 
 pub use buckets::find_row;

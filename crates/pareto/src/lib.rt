@@ -1,4 +1,4 @@
-// What the front of a task needs: the selection of its lines among the rows of a table, the lent slice of entries, and what a
+// Not for outsiders. What the front of a task needs: the selection of its lines among the rows of a table, the lent slice of entries, and what a
 // call returns of them.
 // What the front is stands in specs/Front.antt.
 mod entries;

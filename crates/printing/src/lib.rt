@@ -1,4 +1,4 @@
-// A task's front listed as numbers and its text written, before entries are stored or where none are lent.
+// Not for outsiders. A task's front listed as numbers and its text written, before entries are stored or where none are lent.
 mod without_entries;
 mod writing;
 

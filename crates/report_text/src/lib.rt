@@ -1,4 +1,4 @@
-// The text of a front: its bytes, counted and put into a lent slice; and the text of a refusal. What they are stands in
+// Not for outsiders. The text of a front: its bytes, counted and put into a lent slice; and the text of a refusal. What they are stands in
 // specs/Report.antt.
 mod counting;
 mod putting;

@@ -1,9 +1,12 @@
 -- What the parts of the answer call are asked and say.
 use mathlib.Core.Path.{_≡_}
-use mathlib.Core.List.{List, _++_}
-use Prim.Native.Nat.{ℕ, _/_, _%_, _≤_, _<_}
+use mathlib.Core.List.{List, [], _∷_, _++_}
+use mathlib.Core.Logic.{Dec·and}
+use Prim.Native.Nat.{ℕ, _/_, _%_, _≤_, _<_, min}
+use native.Mathlib.Decide.{decLe}
 use lib.ListN.{length, getD, drop}
 use Rattle.outcome.specs.Limits.{maxNumber}
+use Rattle.strips.specs.Decision.{ask}
 use Rattle.strips.specs.Task.{Valid}
 use Rattle.outcome.specs.Answer.{minutes, none}
 use Rattle.strips.specs.declared.Task.{Task}
@@ -20,6 +23,11 @@ use Rattle.response.specs.Answered.{Returned, refused, answered, Lent, s
 pub data Capacity (sizes : List ℕ) (n : ℕ) : Type 0 where
   lent : Lent sizes → n ≡ shortest sizes → 1 ≤ n → Capacity sizes n
   unlent : (Lent sizes → ⊥) → n ≡ 0 → Capacity sizes n
+
+-- the number of places that slices of these sizes have beside `rest` places: the fewest, or 0 where one of them has too few or too many
+unfoldable pub beside : List ℕ → ℕ → ℕ
+beside [] rest = rest
+beside (n ∷ sizes) rest = ask (Dec·and (decLe 1 n) (decLe n maxPlaces)) 0 (min n (beside sizes rest))
 
 -- the plan of a row is to be returned; the row is the number of rows where there is none
 pub record Row (K L : List ℕ) (row : ℕ) : Type 0 where

@@ -1,14 +1,14 @@
 // Question 8: the places of the shortest working slice, or 0 where a slice has too few or too many.
 // Beside no slices there are as many places as a slice may have.
-ghost use mathlib.Core.List.{List, [], _∷_};
-ghost use Prim.Native.Nat.{ℕ};
+ghost use mathlib.Core.Path.{_≡_};
+ghost use mathlib.Core.List.{[], _∷_};
 ghost use lib.ListN.{length};
-ghost use Rattle.response.specs.Working.{Capacity};
+ghost use Rattle.response.specs.Working.{Capacity, beside};
 use search::MAX_PLACES;
 
 // One slice more, of n places, beside slices with `rest` places.
 fn with_slice(n: usize, rest: usize) -> usize
-    ensures { λ r. ⌜ ((sizes : List ℕ) → Capacity sizes rest → Capacity (n ∷ sizes) r) ⌝ }
+    ensures { λ r. ⌜ r ≡ beside (n ∷ []) rest ⌝ }
 {
     if n < 1 {
         return 0;
@@ -28,7 +28,7 @@ pub fn with_slices(
     fifth: usize,
     rest: usize,
 ) -> usize
-    ensures { λ r. ⌜ ((sizes : List ℕ) → Capacity sizes rest → Capacity (first ∷ second ∷ third ∷ fourth ∷ fifth ∷ sizes) r) ⌝ }
+    ensures { λ r. ⌜ r ≡ beside (first ∷ second ∷ third ∷ fourth ∷ fifth ∷ []) rest ⌝ }
 {
     let one = with_slice(fifth, rest);
     let two = with_slice(fourth, one);

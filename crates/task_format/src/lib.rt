@@ -1,4 +1,4 @@
-// The hall file: its limits, the kinds of values, and which kind each line has. What a file says is defined in specs/.
+// Not for outsiders. The hall file: its limits, the kinds of values, and which kind each line has. What a file says is defined in specs/.
 ghost use mathlib.Core.Path.{_≡_};
 ghost use Rattle.task_format.specs.Lines.{kindOf, lastLine, Few};
 use strips::MAX_COST;

@@ -1,4 +1,4 @@
-// Bytes put into a lent slice, one run behind the other. Each function returns the place behind what it put.
+// Not for outsiders. Bytes put into a lent slice, one run behind the other. Each function returns the place behind what it put.
 ghost use Prim.Native.Nat.{_+_, _^_, _≤_, _<_};
 ghost use lib.ListN.{length};
 ghost use Rattle.task_format.specs.Render.{digitsOf};

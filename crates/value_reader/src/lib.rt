@@ -1,4 +1,4 @@
-// A line's value, read byte by byte, and the verdict of the questions about it.
+// Not for outsiders. A line's value, read byte by byte, and the verdict of the questions about it.
 mod values;
 
 pub use values::Scan;

@@ -1,7 +1,7 @@
 -- The answer is determined by the text and what is lent, and says the front.
 use mathlib.Core.Path.{_≡_, refl, sym, ap, _∙_}
 use mathlib.Core.Logic.{⊎-elim}
-use mathlib.Core.List.{List, _++_, map, List·Memᴰ, List·Memᴰ·not-nil, List·Memᴰ·cases-cons}
+use mathlib.Core.List.{List, List·Memᴰ, List·Memᴰ·not-nil, List·Memᴰ·cases-cons}
 use Prim.Native.Nat.{ℕ, zero, suc, _≤_}
 use native.Mathlib.Omega.{arith}
 use lib.ListN.{length, take, drop, replicate, length-replicate}
@@ -9,25 +9,20 @@ use lib.Seq.{take-at}
 use Rattle.strips.specs.Limits.{maxFollower}
 use Rattle.outcome.specs.declared.Refusal.{Refusal}
 use Rattle.strips.specs.declared.Task.{Task}
-use Rattle.task_format.specs.Parse.{Read, accepted, parse}
-use Rattle.round_trip.specs.Theorems.{read-valid}
+use Rattle.task_format.specs.Parse.{Read}
 use Rattle.outcome.specs.declared.Verdict.{Verdict}
 use Rattle.outcome.specs.declared.Verdict.the-variants.{Accepted, Refused}
 use Rattle.task_reader.specs.Reading.{reported}
 use Rattle.search.specs.Limits.{maxPlaces}
-use Rattle.search.specs.Reachable.{Fits}
-use Rattle.response.specs.Answered.{shortest}
 use Rattle.outcome.specs.Laws.Refusal.{number-some}
 use Rattle.pareto.specs.Front.{Line, Front}
-use Rattle.pareto.specs.Layout.{entryFor, plansFor}
 use Rattle.pareto.specs.Laws.Unique.{front-unique}
 use Rattle.pareto.specs.declared.Entry.{Entry}
 use Rattle.report_text.specs.Report.{reportText}
 use Rattle.listing.specs.Slices.{Slices, slices, sizes}
-use Rattle.printing.specs.declared.Reported.{Reported}
-use Rattle.printing.specs.declared.Reported.the-variants.{Written, Refused as Report-Refused}
-use Rattle.printing.specs.Reported.{Returned, wrote, returned, Told, too-many, no-entries, no-plans, no-text, tells, Outcome, refused-8, refused-9, tells-front, blank, WithRoom}
-use Rattle.printing.specs.Laws.Unique.{outcome-unique, promised-unique}
+use Rattle.printing.specs.declared.Reported.the-variants.{Refused as Report-Refused}
+use Rattle.printing.specs.Reported.{Returned, returned, Told, too-many, no-entries, no-plans, no-text, tells, Outcome, refused-8, refused-9, tells-front, WithRoom}
+use Rattle.printing.specs.Laws.Unique.{with-room-unique}
 use Rattle.file_report.specs.Answer.{AnsweredIn, refuses-text, reports-task, places, room, planNumbers, Answered, refuses, reports}
 
 module _ {t : Task} {text : List ℕ} where
@@ -50,7 +45,7 @@ pub answered-in-unique : {read : Read} {w w₁ w₂ : Slices} {room : ℕ} {plan
 answered-in-unique (refuses-text f) (refuses-text g) = (refl, refl, refl, refl)
 answered-in-unique (refuses-text f) (reports-task z a) = absurd (omega arith)
 answered-in-unique (reports-task z a) (refuses-text f) = absurd (omega arith)
-answered-in-unique (reports-task z a) (reports-task y b) = let same = promised-unique (a .promised) (b .promised) in (same .0, same .2, same .3, same .4)
+answered-in-unique (reports-task z a) (reports-task y b) = with-room-unique a b
 
 pub answered-in-report : {read : Read} {w w′ : Slices} {room : ℕ} {plans plans′ output output′ : List ℕ} {r : Returned} → AnsweredIn read w w′ room plans plans′ output output′ r → r .number ≡ 0
     → {lines : List Line} → Front (read .task) lines → take (r .bytes) output′ ≡ reportText lines

@@ -1,7 +1,7 @@
 -- What is printed is determined by the text, by no more of it than is read, and is the report where that fits.
-use mathlib.Core.Path.{_≡_, refl, sym, ap, _∙_}
-use mathlib.Core.List.{List, _++_}
-use Prim.Native.Nat.{ℕ, _+_, _*_, _≤_, _<_}
+use mathlib.Core.Path.{_≡_, refl, ap, _∙_}
+use mathlib.Core.List.{List}
+use Prim.Native.Nat.{ℕ, _+_, _≤_, _<_}
 use native.Mathlib.Omega.{arith}
 use native.Mathlib.Nat.{zero-add}
 use lib.ListN.{length, take, drop, replicate, length-replicate, length-append}
@@ -15,7 +15,7 @@ use Rattle.task_format.specs.Deciders.{le?}
 use Rattle.task_format.specs.Parse.{Read, parse, accepted}
 use Rattle.task_format.specs.Laws.Parse.{parse-cut, parse-place, parse-accepted}
 use Rattle.round_trip.specs.Theorems.{read-valid}
-use Rattle.text_output.specs.Puts.{numberDigits, Puts}
+use Rattle.text_output.specs.Puts.{Puts}
 use Rattle.text_output.specs.Laws.Puts.{put-over}
 use Rattle.search.specs.Reachable.{Fits}
 use Rattle.response.specs.Answered.{shortest}

@@ -11,7 +11,7 @@ use Rattle.pareto.specs.Laws.Unique.{front-unique}
 use Rattle.pareto.specs.declared.Entry.{Entry}
 use Rattle.report_text.specs.Report.{reportText}
 use Rattle.listing.specs.Slices.{Slices, leftIn}
-use Rattle.printing.specs.Reported.{Returned, Told, too-many, no-entries, no-plans, no-text, tells, Outcome, refused-8, refused-9, tells-front, Promised}
+use Rattle.printing.specs.Reported.{Returned, Told, too-many, no-entries, no-plans, no-text, tells, Outcome, refused-8, refused-9, tells-front, Promised, WithRoom}
 
 module _ {t : Task} {n : ℕ} {entries : List Entry} {plans text : List ℕ} where
   pub told-unique : {r u : Returned} {e f : List Entry} {x y v w : List ℕ} → Told t n entries plans text r e x v → Told t n entries plans text u f y w → (r ≡ u) × (e ≡ f) × (x ≡ y) × (v ≡ w)
@@ -59,3 +59,8 @@ pub promised-unique : {t : Task} {w x y : Slices} {entries e f : List Entry} {pl
 promised-unique {w = w} a b =
     let same = outcome-unique (a .outcome) (b .outcome) in
     (same .0, same .1, same .2, same .3, a .left ∙ ap (λ (r : Returned). leftIn (r .number) w) (same .0) ∙ sym (b .left))
+
+-- the same where no entries are lent
+pub with-room-unique : {t : Task} {w x y : Slices} {room : ℕ} {plans p q text v z : List ℕ} {r u : Returned} → WithRoom t w x room plans p text v r → WithRoom t w y room plans q text z u
+    → (r ≡ u) × (p ≡ q) × (v ≡ z) × (x ≡ y)
+with-room-unique a b = let same = promised-unique (a .promised) (b .promised) in (same .0, same .2, same .3, same .4)

@@ -1,33 +1,43 @@
 -- Question 8, slice by slice.
-use mathlib.Core.Path.{_≡_, refl}
-use mathlib.Core.Logic.{⊎-elim}
-use mathlib.Core.List.{List, [], _∷_, List·Memᴰ, List·Memᴰ·head, List·Memᴰ·tail, List·Memᴰ·not-nil, List·Memᴰ·cases-cons}
+use mathlib.Core.Path.{_≡_, refl, sym, _∙_}
+use mathlib.Core.Logic.{⊎-elim, Dec·and}
+use mathlib.Core.List.{List, [], _∷_, _++_, List·Memᴰ, List·Memᴰ·head, List·Memᴰ·tail, List·Memᴰ·not-nil, List·Memᴰ·cases-cons}
 use Prim.Native.Nat.{ℕ, _≤_, _<_, min}
+use native.Mathlib.Decide.{decLe}
 use native.Mathlib.Omega.{arith}
 use lib.ListN.{length}
 use Rattle.strips.specs.Task.{Valid}
+use Rattle.strips.specs.Laws.Decision.{asked-yes, asked-no, asked-either}
 use Rattle.strips.specs.declared.Task.{Task}
 use Rattle.search.specs.Limits.{maxPlaces}
 use Rattle.search.specs.Reachable.{Reach}
 use Rattle.response.specs.Answered.{Lent, shortest}
-use Rattle.response.specs.Working.{Capacity, lent, unlent, Roomy}
+use Rattle.response.specs.Working.{Capacity, lent, unlent, beside, Roomy}
 
 pub no-slices : Capacity [] maxPlaces
 unfolding shortest
 no-slices = lent (λ n m. absurd (List·Memᴰ·not-nil m)) refl (omega arith)
 
 -- one slice more, of n places
-module _ (n : ℕ) (sizes : List ℕ) (k : ℕ) where
-  pub size-wrong : ((1 ≤ n) × (n ≤ maxPlaces) → ⊥) → Capacity (n ∷ sizes) 0
-  size-wrong out = unlent (λ l. out (l n (List·Memᴰ·head refl))) refl
+module _ (n rest : ℕ) where
+  pub size-wrong : ((1 ≤ n) × (n ≤ maxPlaces) → ⊥) → 0 ≡ beside (n ∷ []) rest
+  unfolding beside
+  size-wrong out = sym (asked-no (Dec·and (decLe 1 n) (decLe n maxPlaces)) out 0 _)
 
-  pub size-right : 1 ≤ n → n ≤ maxPlaces → Capacity sizes k → (m : ℕ) → m ≡ min n k → Capacity (n ∷ sizes) m
-  unfolding shortest
-  size-right h l (lent each e g) m f = lent one (omega arith) (omega arith)
-    where
-      one : Lent (n ∷ sizes)
-      one x w = ⊎-elim (λ (q : x ≡ n). rw q (h, l)) (λ (q : List·Memᴰ x sizes). each x q) (List·Memᴰ·cases-cons w)
-  size-right h l (unlent out e) m f = unlent (λ w. out (λ x q. w x (List·Memᴰ·tail q))) (omega arith)
+  pub size-right : 1 ≤ n → n ≤ maxPlaces → {m : ℕ} → m ≡ min n rest → m ≡ beside (n ∷ []) rest
+  unfolding beside
+  size-right h l e = e ∙ sym (asked-yes (Dec·and (decLe 1 n) (decLe n maxPlaces)) (h, l) 0 _)
+
+-- what is beside the slices of some sizes, with more slices
+pub beside-capacity : (more : List ℕ) {sizes : List ℕ} {rest r : ℕ} → r ≡ beside more rest → Capacity sizes rest → Capacity (more ++ sizes) r
+unfolding beside shortest
+beside-capacity [] e c = rw e c
+beside-capacity (n ∷ more) {sizes} {rest} {r} e c =
+    rw e (asked-either (Capacity (n ∷ (more ++ sizes))) (Dec·and (decLe 1 n) (decLe n maxPlaces)) (λ out. unlent (λ l. out (l n (List·Memᴰ·head refl))) refl) (λ h. both h (beside-capacity more refl c)))
+  where
+    both : (1 ≤ n) × (n ≤ maxPlaces) → {k : ℕ} → Capacity (more ++ sizes) k → Capacity (n ∷ (more ++ sizes)) (min n k)
+    both h (lent each f g) = lent (λ x w. ⊎-elim (λ (q : x ≡ n). rw q h) (λ (q : List·Memᴰ x (more ++ sizes)). each x q) (List·Memᴰ·cases-cons w)) (omega arith) (omega arith)
+    both h (unlent out f) = unlent (λ w. out (λ x q. w x (List·Memᴰ·tail q))) (omega arith)
 
 -- every slice has as many places as the shortest
 pub shortest-least : (sizes : List ℕ) (n : ℕ) → List·Memᴰ n sizes → shortest sizes ≤ n

@@ -1,7 +1,6 @@
 -- `response::capacity::places_lent` meets its contract.
-use mathlib.Core.List.{[]}
 use borrow.Author.Needs.{needs}
-use Rattle.response.specs.Laws.Capacity.{no-slices}
+use Rattle.response.specs.Laws.Capacity.{no-slices, beside-capacity}
 use Rattle.response.proofs.capacity.places_lent.Statement.{statement}
 use Rattle.response.proofs.capacity.places_lent.Tie as tie
 
@@ -12,7 +11,7 @@ with-slices-requires : tie.Need-with-slices-requires
 with-slices-requires c κs = search needs
 
 returns : tie.Need-returns
-returns c = c .with-slices .ensures _ (c .before .with-slice .ensures [] no-slices)
+returns c = beside-capacity _ (c .with-slices .ensures) (beside-capacity _ (c .before .with-slice .ensures) no-slices)
 
 pub places-lent-spec : {M : Type 1} → statement M
 places-lent-spec = tie.close (tie.spec with-slice-requires with-slices-requires returns)

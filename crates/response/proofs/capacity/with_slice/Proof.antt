@@ -5,16 +5,16 @@ use Rattle.response.proofs.capacity.with_slice.Statement.{statement}
 use Rattle.response.proofs.capacity.with_slice.Tie as tie
 
 returns : tie.Need-returns
-returns c = λ sizes x. size-wrong _ sizes 0 (λ h. omega (arith, h .0, c .if1 .taken))
+returns c = size-wrong _ _ (λ h. omega (arith, h .0, c .if1 .taken))
 
 returns-2 : tie.Need-returns-2
-returns-2 c = λ sizes x. size-wrong _ sizes 0 (λ h. omega (arith, h .1, c .if2 .taken))
+returns-2 c = size-wrong _ _ (λ h. omega (arith, h .1, c .if2 .taken))
 
 returns-3 : tie.Need-returns-3
-returns-3 c = λ sizes x. size-right _ sizes _ (c .before .before .if1 .left) (c .before .if2 .left) x _ (omega arith)
+returns-3 c = size-right _ _ (c .before .before .if1 .left) (c .before .if2 .left) (omega arith)
 
 returns-4 : tie.Need-returns-4
-returns-4 c = λ sizes x. size-right _ sizes _ (c .before .before .if1 .left) (c .before .if2 .left) x _ (omega arith)
+returns-4 c = size-right _ _ (c .before .before .if1 .left) (c .before .if2 .left) (omega arith)
 
 pub with-slice-spec : {M : Type 1} → statement M
 with-slice-spec = tie.close (tie.spec returns returns-2 returns-3 returns-4)

@@ -1,5 +1,7 @@
 -- `response::capacity::with_slices` meets its contract.
+use mathlib.Core.Path.{refl, _∙_}
 use borrow.Author.Needs.{needs}
+use Rattle.response.specs.Working.{beside}
 use Rattle.response.proofs.capacity.with_slices.Statement.{statement}
 use Rattle.response.proofs.capacity.with_slices.Tie as tie
 
@@ -19,7 +21,10 @@ with-slice-requires-5 : tie.Need-with-slice-requires-5
 with-slice-requires-5 c κs = search needs
 
 returns : tie.Need-returns
-returns c = λ sizes x. c .with-slice5 .ensures _ (c .before .with-slice4 .ensures _ (c .before .before .with-slice3 .ensures _ (c .before .before .before .with-slice2 .ensures _ (c .before .before .before .before .with-slice .ensures _ x))))
+unfolding beside
+returns c =
+    c .with-slice5 .ensures
+    ∙ rw (c .before .with-slice4 .ensures, c .before .before .with-slice3 .ensures, c .before .before .before .with-slice2 .ensures, c .before .before .before .before .with-slice .ensures) refl
 
 pub with-slices-spec : {M : Type 1} → statement M
 with-slices-spec =
