@@ -1,6 +1,6 @@
 -- What is printed is determined by the text, by no more of it than is read, and is the report where that fits.
-use mathlib.Core.Path.{_≡_, refl, ap, _∙_}
-use mathlib.Core.List.{List}
+use mathlib.Core.Path.{_≡_, refl, sym, ap, _∙_}
+use mathlib.Core.List.{List, _++_}
 use Prim.Native.Nat.{ℕ, _+_, _≤_, _<_}
 use native.Mathlib.Omega.{arith}
 use native.Mathlib.Nat.{zero-add}
@@ -43,6 +43,12 @@ prints-unique (reach-refused z n) (front-listed y h g) = absurd (n h)
 prints-unique (front-listed z h f) (text-refused g) = absurd (omega arith)
 prints-unique (front-listed z h f) (reach-refused y m) = absurd (m h)
 prints-unique {text} (front-listed z h f) (front-listed y k g) = ap linesPrinted (front-unique (parse text .task) f g)
+
+-- and so are the output and the number of bytes that two answers leave
+pub put-unique : {text output x y : List ℕ} {r u : ℕ} → AnswerPut text output x r → AnswerPut text output y u → (r ≡ u) × (x ≡ y)
+put-unique {output = output} a b =
+    let same = prints-unique (a .prints) (b .prints) in
+    (a .bytes ∙ ap length same ∙ sym (b .bytes), a .output ∙ ap (λ (p : List ℕ). p ++ drop (length p) output) same ∙ sym (b .output))
 
 -- whatever follows the bytes that are read, the answer to an input is the answer to these
 pub cut-input : (input : List ℕ) {x : List ℕ} → Prints (take inputBytes input) x → Prints input x
