@@ -1,14 +1,19 @@
 // How many places of a slice hold a number.
-ghost use Prim.Native.Nat.{_≤_};
+ghost use mathlib.Core.Path.{_≡_};
+ghost use lib.Dec.{eqb};
+ghost use Rattle.test_support.specs.Count.{indicator, count, throughout, countRows};
 use strips::MAX_FOLLOWER;
 
+// 1 where two numbers are the same, and else 0.
 fn is_same(number: u64, other: u64) -> usize
-    ensures { λ r. ⌜ r ≤ 1 ⌝ }
+    ensures { λ r. ⌜ r ≡ indicator (eqb number other) ⌝ }
 {
     if number == other { 1 } else { 0 }
 }
 
-pub fn count_states(places: &[u64], number: u64) -> usize {
+pub fn count_states(places: &[u64], number: u64) -> usize
+    ensures { λ r. ⌜ r ≡ count number (now (places .entry)) ⌝ }
+{
     let mut same = 0;
     let mut i = 0;
     while i < places.len() {
@@ -18,55 +23,56 @@ pub fn count_states(places: &[u64], number: u64) -> usize {
     same
 }
 
-pub fn count_rows(places: &[usize], number: u64) -> usize {
-    let mut same = 0;
-    let mut i = 0;
-    while i < places.len() {
-        same += is_same(places[i] as u64, number);
-        i += 1;
-    }
-    same
-}
-
-pub fn count_bytes(places: &[u8], number: u64) -> usize {
-    let mut same = 0;
-    let mut i = 0;
-    while i < places.len() {
-        same += is_same(places[i] as u64, number);
-        i += 1;
-    }
-    same
-}
-
-pub fn count_heads(places: &[u32], number: u64) -> usize {
-    let mut same = 0;
-    let mut i = 0;
-    while i < places.len() {
-        same += is_same(places[i] as u64, number);
-        i += 1;
-    }
-    same
-}
-
-// Whether the number stands throughout a row.
-fn is_throughout(row: [u32; MAX_FOLLOWER], number: u64) -> usize
-    ensures { λ r. ⌜ r ≤ 1 ⌝ }
+pub fn count_rows(places: &[usize], number: u64) -> usize
+    ensures { λ r. ⌜ r ≡ count number (now (places .entry)) ⌝ }
 {
-    let mut i = 0;
-    while i < MAX_FOLLOWER {
-        if row[i] as u64 != number {
-            return 0;
-        }
-        i += 1;
-    }
-    1
-}
-
-pub fn count_lists(places: &[[u32; MAX_FOLLOWER]], number: u64) -> usize {
     let mut same = 0;
     let mut i = 0;
     while i < places.len() {
-        same += is_throughout(places[i], number);
+        same += is_same(places[i] as u64, number);
+        i += 1;
+    }
+    same
+}
+
+pub fn count_bytes(places: &[u8], number: u64) -> usize
+    ensures { λ r. ⌜ r ≡ count number (now (places .entry)) ⌝ }
+{
+    let mut same = 0;
+    let mut i = 0;
+    while i < places.len() {
+        same += is_same(places[i] as u64, number);
+        i += 1;
+    }
+    same
+}
+
+pub fn count_heads(places: &[u32], number: u64) -> usize
+    ensures { λ r. ⌜ r ≡ count number (now (places .entry)) ⌝ }
+{
+    let mut same = 0;
+    let mut i = 0;
+    while i < places.len() {
+        same += is_same(places[i] as u64, number);
+        i += 1;
+    }
+    same
+}
+
+// 1 where a row has the number throughout, and else 0.
+fn is_throughout(row: &[u32], number: u64) -> usize
+    ensures { λ r. ⌜ r ≡ indicator (throughout number (now (row .entry))) ⌝ }
+{
+    is_same(count_heads(row, number) as u64, row.len() as u64)
+}
+
+pub fn count_lists(places: &[[u32; MAX_FOLLOWER]], number: u64) -> usize
+    ensures { λ r. ⌜ r ≡ countRows number (now (places .entry)) ⌝ }
+{
+    let mut same = 0;
+    let mut i = 0;
+    while i < places.len() {
+        same += is_throughout(&places[i], number);
         i += 1;
     }
     same

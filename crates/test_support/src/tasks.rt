@@ -1,4 +1,6 @@
 // Tasks, and what is in lent places before a call.
+ghost use mathlib.Core.Path.{_≡_};
+ghost use Rattle.test_support.specs.Tasks.{act, bareTask, workedHall, otherEntry};
 use outcome::Answer;
 use outcome::Minutes;
 use outcome::Price;
@@ -8,7 +10,9 @@ use strips::MAX_FOLLOWER;
 use strips::MAX_LEADER;
 use strips::Task;
 
-pub fn action(cost: u32, precondition: u64, delete: u64, add: u64) -> Action {
+pub fn action(cost: u32, precondition: u64, delete: u64, add: u64) -> Action
+    ensures { λ r. ⌜ r ≡ act cost precondition delete add ⌝ }
+{
     Action {
         cost,
         precondition,
@@ -18,7 +22,9 @@ pub fn action(cost: u32, precondition: u64, delete: u64, add: u64) -> Action {
 }
 
 // A task with facts 1 to 6 and no actions.
-pub fn bare(initial: u64, goal: u64) -> Task {
+pub fn bare(initial: u64, goal: u64) -> Task
+    ensures { λ r. ⌜ r ≡ bareTask initial goal ⌝ }
+{
     let idle = action(0, 0, 0, 0);
     Task {
         facts: 6,
@@ -32,7 +38,9 @@ pub fn bare(initial: u64, goal: u64) -> Task {
 }
 
 // Document 01's hall: 1 tray in the house, 2 tray at the dock, 3 upper belt runs, 4 lower belt runs.
-pub fn worked() -> Task {
+pub fn worked() -> Task
+    ensures { λ r. ⌜ r ≡ workedHall ⌝ }
+{
     let mut task = bare(13, 2);
     task.facts = 4;
     task.leader_count = 2;
@@ -45,7 +53,9 @@ pub fn worked() -> Task {
 }
 
 // What an entry holds before a call.
-pub fn other_entry() -> Entry {
+pub fn other_entry() -> Entry
+    ensures { λ r. ⌜ r ≡ otherEntry ⌝ }
+{
     Entry {
         price: Price(77),
         answer: Answer::Cost(Minutes(66)),

@@ -1,0 +1,2 @@
+-- What is proved about the meanings.
+pub mod Count
