@@ -1,5 +1,6 @@
-// Fronts of document 01's worked hall and of a task with a long detour in two entries, all with lent slices and entries that
-// hold other numbers before, and what is left in every lent place. What it prints is compared with the file stdout.
+// Fronts of document 01's worked hall, of tasks like it and of one with a long detour, all with lent slices and entries that hold
+// other numbers before, and what is left in every lent place. What it prints is compared with the file stdout.
+ghost use Prim.Native.Nat.{_≤_};
 use front::Fronted;
 use front::front;
 use pareto::Entry;
@@ -29,13 +30,14 @@ fn print_fronted(fronted: Fronted) {
     print(b"\n");
 }
 
-fn print_two(fronted: Fronted, entries: [Entry; 2]) {
+fn print_three(fronted: Fronted, entries: [Entry; 3]) {
     print_fronted(fronted);
     print_entry(entries[0]);
     print_entry(entries[1]);
+    print_entry(entries[2]);
 }
 
-// Prints the outcome of the call with room for two entries, and both entries.
+// Prints the outcome of the call with the first `room` of three entries lent, and all three.
 fn list_in<'w, 'b>(
     task: Task,
     states: &'w mut [u64],
@@ -48,10 +50,13 @@ fn list_in<'w, 'b>(
     heads: &'w mut [u32],
     lists: &'b mut [[u32; MAX_FOLLOWER]],
     picked: &'w mut [usize],
+    room: usize,
     plans: &'w mut [u8],
-) {
+)
+    requires { ⌜ room ≤ 3 ⌝ }
+{
     let other = other_entry();
-    let mut entries = [other; 2];
+    let mut entries = [other; 3];
     let fronted = front(
         task,
         states,
@@ -64,10 +69,10 @@ fn list_in<'w, 'b>(
         heads,
         lists,
         picked,
-        &mut entries,
+        &mut entries[..room],
         plans,
     );
-    print_two(fronted, entries);
+    print_three(fronted, entries);
 }
 
 fn print_plans(plans: &[u8]) {
@@ -162,8 +167,11 @@ fn list(
     heads: &mut [u32],
     lists: &mut [[u32; MAX_FOLLOWER]],
     picked: &mut [usize],
+    room: usize,
     plans: &mut [u8],
-) {
+)
+    requires { ⌜ room ≤ 3 ⌝ }
+{
     print(label);
     print(b":");
     list_in(
@@ -178,6 +186,7 @@ fn list(
         heads,
         lists,
         picked,
+        room,
         plans,
     );
     print_left(
@@ -196,7 +205,9 @@ fn list(
 }
 
 // Slices of 7 places and more, which is the reach of document 01's hall, but for one that the caller lends.
-fn tight(label: &[u8], task: Task, picked: &mut [usize], plans: &mut [u8]) {
+fn tight(label: &[u8], task: Task, picked: &mut [usize], room: usize, plans: &mut [u8])
+    requires { ⌜ room ≤ 3 ⌝ }
+{
     let mut states = [5u64; 7];
     let mut keys = [5u64; 8];
     let mut links = [5usize; 9];
@@ -219,7 +230,23 @@ fn tight(label: &[u8], task: Task, picked: &mut [usize], plans: &mut [u8]) {
         &mut heads,
         &mut lists,
         picked,
+        room,
         plans,
+    );
+}
+
+// So many places of one slice, entries and plan numbers are lent. Document 01's hall needs 7, 3 and 5.
+fn list_with(label: &[u8], task: Task, places: usize, entries: usize, numbers: usize)
+    requires { ⌜ (places ≤ 7) × (entries ≤ 3) × (numbers ≤ 5) ⌝ }
+{
+    let mut picked = [5usize; 7];
+    let mut plans = [99u8; 5];
+    tight(
+        label,
+        task,
+        &mut picked[..places],
+        entries,
+        &mut plans[..numbers],
     );
 }
 
@@ -248,35 +275,9 @@ fn wide(label: &[u8], task: Task, plans: &mut [u8]) {
         &mut heads,
         &mut lists,
         &mut picked,
+        3,
         plans,
     );
-}
-
-// Places for the reach, and as many plan numbers as the two lines of the hall with a free first outage have.
-fn enough(label: &[u8], task: Task) {
-    let mut picked = [5usize; 7];
-    let mut plans = [99u8; 4];
-    tight(label, task, &mut picked, &mut plans);
-}
-
-fn short_plans(label: &[u8], task: Task) {
-    let mut picked = [5usize; 7];
-    let mut plans = [99u8; 3];
-    tight(label, task, &mut picked, &mut plans);
-}
-
-// One of the slices has 6 places.
-fn too_tight(label: &[u8], task: Task) {
-    let mut picked = [5usize; 6];
-    let mut plans = [99u8; 3];
-    tight(label, task, &mut picked, &mut plans);
-}
-
-// One of the slices has no place.
-fn no_place(label: &[u8], task: Task) {
-    let mut picked = [5usize; 0];
-    let mut plans = [99u8; 3];
-    tight(label, task, &mut picked, &mut plans);
 }
 
 // The hall with a first outage that costs nothing.
@@ -288,15 +289,21 @@ fn free_outage() -> Task {
 
 fn floor() {
     let task = worked();
-    enough(b"the hall", task);
-    too_tight(b"6 places", task);
-    no_place(b"no place", task);
-    let free = free_outage();
-    enough(b"first outage at price 0", free);
-    short_plans(b"first outage at price 0, 3 plan numbers", free);
+    list_with(b"the hall", task, 7, 3, 5);
+    list_with(b"6 places", task, 6, 3, 5);
+    list_with(b"no place", task, 0, 3, 5);
+    list_with(b"2 entries", task, 7, 2, 5);
+    list_with(b"4 plan numbers", task, 7, 3, 4);
     let mut reached = worked();
     reached.goal = 0;
-    enough(b"empty goal", reached);
+    list_with(b"empty goal", reached, 7, 3, 5);
+}
+
+// Two lines, and one plan number less.
+fn free_first() {
+    let free = free_outage();
+    list_with(b"first outage at price 0", free, 7, 2, 4);
+    list_with(b"first outage at price 0, 3 plan numbers", free, 7, 2, 3);
 }
 
 // Actions are left out.
@@ -305,21 +312,22 @@ fn fewer_actions() {
     let mut calm = worked();
     calm.leader_count = 0;
     calm.leader = [idle; 16];
-    enough(b"no outages", calm);
+    list_with(b"no outages", calm, 7, 3, 5);
     let mut stuck = worked();
     stuck.follower_count = 0;
     stuck.follower = [idle; 32];
-    enough(b"no moves", stuck);
+    list_with(b"no moves", stuck, 7, 3, 5);
 }
 
 // Of several questions that get no, the first is named.
 fn refusals() {
     let mut broken = worked();
     broken.facts = 0;
-    enough(b"no facts", broken);
-    no_place(b"no facts, no place", broken);
-    too_tight(b"no facts, 6 places", broken);
-    short_plans(b"the hall, 3 plan numbers", worked());
+    list_with(b"no facts", broken, 7, 3, 5);
+    list_with(b"no facts, no place", broken, 0, 3, 5);
+    list_with(b"no facts, 6 places", broken, 6, 3, 5);
+    list_with(b"6 places, 2 entries, 4 plan numbers", worked(), 6, 2, 4);
+    list_with(b"2 entries, 4 plan numbers", worked(), 7, 2, 4);
 }
 
 // The outage needs fact 5, which only a move gives.
@@ -330,7 +338,7 @@ fn after_a_move() {
     task.follower_count = 2;
     task.follower[0] = action(1, 5, 1, 2);
     task.follower[1] = action(0, 0, 0, 16);
-    enough(b"outage after a move", task);
+    list_with(b"outage after a move", task, 7, 3, 5);
 }
 
 // Without the belt, fact 11, a counter of 5 bits has to go down: facts 6 to 10 are its bits, facts 1 to 5 say that a bit is not set.
@@ -359,6 +367,7 @@ fn long_detour() {
 
 fn main() {
     floor();
+    free_first();
     fewer_actions();
     refusals();
     after_a_move();
