@@ -2,7 +2,7 @@
 use mathlib.Core.List.{List, [], _∷_, _++_}
 use Prim.Native.Nat.{ℕ}
 use lib.ListN.{length, take, drop}
-use Rattle.search.specs.Cleared.{zeros, zeroRows}
+use Rattle.rows.specs.Cleared.{zeros, zeroRows}
 use Rattle.response.specs.Answered.{leftOf}
 use Rattle.pareto.specs.Entries.{emptied}
 

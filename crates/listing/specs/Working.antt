@@ -7,7 +7,7 @@ use Rattle.strips.specs.Task.{Valid}
 use Rattle.strips.specs.declared.Task.{Task}
 use Rattle.search.specs.Limits.{maxPlaces}
 use Rattle.search.specs.Rows.{ReachTable}
-use Rattle.search.specs.Cleared.{zeros, zeroRows}
+use Rattle.rows.specs.Cleared.{zeros, zeroRows}
 use Rattle.response.specs.Answered.{Lent, shortest}
 use Rattle.listing.specs.Slices.{Slices, sizes}
 

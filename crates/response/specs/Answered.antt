@@ -14,7 +14,7 @@ use Rattle.replay.specs.Replay.{endState, replayed}
 use Rattle.search.specs.Limits.{maxPlaces}
 use Rattle.search.specs.Reachable.{Fits}
 use Rattle.search.specs.Response.{Response}
-use Rattle.search.specs.Cleared.{zeros}
+use Rattle.rows.specs.Cleared.{zeros}
 use Rattle.response.specs.declared.Answered.{Answered}
 use Rattle.response.specs.declared.Answered.the-variants.{Found, Refused}
 

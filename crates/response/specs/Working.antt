@@ -14,7 +14,7 @@ use Rattle.search.specs.Limits.{maxPlaces, keyBase}
 use Rattle.search.specs.Reachable.{Reach}
 use Rattle.search.specs.Rows.{ReachTable}
 use Rattle.reachable.specs.Growth.{Workspace}
-use Rattle.search.specs.Cleared.{zeros}
+use Rattle.rows.specs.Cleared.{zeros}
 use Rattle.chains.specs.Chains.{Linked}
 use Rattle.forward.specs.Nearest.{Comparable}
 use Rattle.response.specs.Answered.{Returned, refused, answered, Lent, shortest}

@@ -7,8 +7,8 @@ use lib.ListN.{length, take, drop, replicate, length-append, length-drop, replic
 use lib.Seq.{length-take-le, drop-at}
 use borrow.Rule.Slice.PartMut.{midOf, putMid}
 use Rattle.strips.specs.Limits.{maxFollower}
-use Rattle.search.specs.Cleared.{everywhere, zeroRows}
-use Rattle.search.specs.Laws.Cleared.{zeros-same}
+use Rattle.rows.specs.Cleared.{everywhere, zeroRows}
+use Rattle.rows.specs.Laws.Cleared.{zeros-same}
 use Rattle.response.specs.Working.{Wiped}
 use Rattle.pareto.specs.Entries.{emptied}
 use Rattle.pareto.specs.Laws.Entries.{emptied-is}

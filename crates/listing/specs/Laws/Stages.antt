@@ -7,7 +7,7 @@ use lib.ListN.{length, take, drop, length-append}
 use lib.Seq.{length-take-le, take-at}
 use Rattle.strips.specs.Task.{Valid}
 use Rattle.strips.specs.declared.Task.{Task}
-use Rattle.search.specs.Cleared.{zeroRows}
+use Rattle.rows.specs.Cleared.{zeroRows}
 use Rattle.response.specs.Answered.{Lent}
 use Rattle.response.specs.Laws.Promise.{left-held, left-clear}
 use Rattle.pareto.specs.Front.{Line}

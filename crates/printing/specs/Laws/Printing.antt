@@ -8,7 +8,7 @@ use Rattle.strips.specs.Limits.{maxFollower}
 use Rattle.outcome.specs.declared.Refusal.{Refusal}
 use Rattle.strips.specs.declared.Task.{Task}
 use Rattle.search.specs.Limits.{maxPlaces}
-use Rattle.search.specs.Cleared.{everywhere}
+use Rattle.rows.specs.Cleared.{everywhere}
 use Rattle.response.specs.Answered.{Lent}
 use Rattle.outcome.specs.Laws.Refusal.{number-some}
 use Rattle.response.specs.Laws.Promise.{left-clear}

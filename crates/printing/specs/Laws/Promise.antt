@@ -6,8 +6,8 @@ use native.Mathlib.Omega.{arith}
 use lib.ListN.{length, take, drop, replicate, length-replicate}
 use lib.Seq.{length-take-le}
 use Rattle.strips.specs.declared.Task.{Task}
-use Rattle.search.specs.Cleared as C
-use Rattle.search.specs.Cleared.{zeroRows}
+use Rattle.rows.specs.Cleared as C
+use Rattle.rows.specs.Cleared.{zeroRows}
 use Rattle.pareto.specs.Front.{Line, Front}
 use Rattle.pareto.specs.Entries.{filled, emptied}
 use Rattle.pareto.specs.Laws.Entries.{emptied-is}

@@ -21,7 +21,7 @@ use Rattle.replay.specs.Replay.{Returned as Replay, refused as stopped, ran, kn
 use Rattle.replay.specs.declared.Ended.{Ended}
 use Rattle.replay.specs.declared.Replayed.{Replayed}
 use Rattle.replay.specs.declared.Replayed.the-variants.{Ran, Refused}
-use Rattle.search.specs.Cleared.{zeros}
+use Rattle.rows.specs.Cleared.{zeros}
 use Rattle.response.specs.Answered.{Returned, refused, Lent, shortest, Responded, too-many, no-room, answers, Outcome, refused-8, refused-9-to-12, responds, leftOf, Promised}
 use Rattle.response.specs.Working.{Wiped}
 

@@ -1,0 +1,3 @@
+-- What is proved about columns, words and cleared slices.
+pub mod Columns
+pub mod Cleared
