@@ -1,0 +1,3 @@
+-- Transitions, weights and keys; `Laws` has what is proved about them.
+pub mod Transitions
+pub mod Laws
