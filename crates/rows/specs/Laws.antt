@@ -1,3 +1,4 @@
 -- What is proved about columns, words and cleared slices.
 pub mod Columns
 pub mod Cleared
+pub mod Words
