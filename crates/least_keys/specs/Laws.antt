@@ -1,0 +1,2 @@
+-- What is proved about the search in the columns of the rows.
+pub mod Turn
