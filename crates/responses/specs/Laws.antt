@@ -2,3 +2,4 @@
 pub mod Predecessors
 pub mod Goals
 pub mod Turn
+pub mod Least

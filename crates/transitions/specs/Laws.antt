@@ -2,3 +2,4 @@
 pub mod Transitions
 pub mod Keys
 pub mod Example
+pub mod Order
