@@ -81,9 +81,9 @@ module _ (lines : List Line) where
       report-listed h = asked-yes (le? (length lines) room) a _ _ ∙ asked-yes (le? (length (plansFor lines)) planNumbers) b _ _ ∙ asked-yes (le? (length (reportText lines)) outputBytes) h _ _
 
 -- where reach, lines, plans and text fit what is lent, the report of the front of the task that the text says is printed
-pub report-printed : {text x : List ℕ} {t : Task} {lines : List Line} → Prints text x → parse text ≡ accepted t → Fits t places → Front t lines
+pub whole-report : {text x : List ℕ} {t : Task} {lines : List Line} → Prints text x → parse text ≡ accepted t → Fits t places → Front t lines
     → length lines ≤ room → length (plansFor lines) ≤ planNumbers → length (reportText lines) ≤ outputBytes → x ≡ reportText lines
-report-printed {text} {lines = lines} p e f g a b c =
+whole-report {text} {lines = lines} p e f g a b c =
     let task : parse text .task ≡ _ = ap (λ (r : Read). r .task) e in
     prints-unique p (front-listed (ap (λ (r : Read). r .number) e) (rw task f) (rw task g)) ∙ report-listed lines a b c
 
