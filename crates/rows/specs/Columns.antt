@@ -33,6 +33,9 @@ valueColumn = 3
 abbrev pub hopColumn : ℕ
 hopColumn = 4
 
+abbrev pub noteColumn : ℕ
+noteColumn = 5
+
 abbrev pub placeColumn : ℕ
 placeColumn = 6
 

@@ -15,6 +15,7 @@ pub use words::HEAP;
 pub use words::HOP;
 pub use words::KEY;
 pub use words::LINK;
+pub use words::NOTE;
 pub use words::ORDER;
 pub use words::PLACE;
 pub use words::VALUE;

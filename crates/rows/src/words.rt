@@ -7,7 +7,8 @@ ghost use Rattle.rows.specs.Cleared.{everywhere};
 
 pub const WORDS: usize = 8;
 
-// The columns. Key, link and order are the forward search's, value and hop the backward search's; both have places and heap.
+// The columns. Key, link and order are the forward search's, value and hop the backward search's; both have places and heap. Notes are free for whoever
+// reads what the searches leave.
 pub const KEY: usize = 0;
 
 pub const LINK: usize = 1;
@@ -17,6 +18,8 @@ pub const ORDER: usize = 2;
 pub const VALUE: usize = 3;
 
 pub const HOP: usize = 4;
+
+pub const NOTE: usize = 5;
 
 pub const PLACE: usize = 6;
 

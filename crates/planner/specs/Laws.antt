@@ -1,0 +1,2 @@
+-- What is proved about what the rows say.
+pub mod Reading

@@ -1,0 +1,5 @@
+-- What the rows say after the searches of a task; `Inner` has how they are read, `Laws` what is proved.
+pub mod Inner
+pub mod Reading
+pub mod Solved
+pub mod Laws

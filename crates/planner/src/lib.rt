@@ -1,0 +1,13 @@
+// Not for outsiders. The plans of a task: the searches, and what the rows say after them.
+mod reading;
+
+pub use reading::answer;
+pub use reading::leader_steps;
+pub use reading::note;
+pub use reading::price;
+pub use reading::put_note;
+pub use reading::rank;
+pub use reading::response_steps;
+pub use reading::settled_row;
+pub use reading::write_leader_plan;
+pub use reading::write_response;
