@@ -28,9 +28,13 @@ loop-holds : tie.Need-loop-holds Inv-loop μ-loop
 loop-holds c =
     let start = c .before .before in
     let R = start .args .rows .now in
-    let e = encoded (start .pre .0) in
-    (omega arith, (e .n, e .hops, e .inside, omega (arith, e .links .size, col-length linkColumn R)),
-     omega (arith, c .response-steps .ensures .0, follower-length R (start .args .i)), refl, head-start _ _ _ _)
+    let e = encoded (start .pre .0) in (
+      omega arith,
+      (e .n, e .hops, e .inside, omega (arith, e .links .size, col-length linkColumn R)),
+      omega (arith, c .response-steps .ensures .0, follower-length R (start .args .i)),
+      refl,
+      head-start _ _ _ _,
+    )
 
 get-requires : tie.Need-get-requires Inv-loop μ-loop
 get-requires c κs = let w = c .before .loop .inv .1 in (omega (arith, w .2, w .3), omega arith)
@@ -72,9 +76,11 @@ returns c =
     let R = start .args .rows .now in
     let i = start .args .i in
     let steps = c .before .before .response-steps .ensures .0 in
-    let e = steps ∙ follower-length R i in
-    (steps, head-stop _ _ _ _ (c .before .loop .k) (c .before .loop .x) _ (omega arith) (c .before .loop .inv .4)
-      ∙ ap (λ (p : List ℕ). p ++ drop (c .before .before .response-steps .result) (start .args .plan .now)) (ap (λ (n : ℕ). stepsFrom (col hopColumn R) n i) e ∙ sym (follower-is R i)))
+    let e = steps ∙ follower-length R i in (
+      steps,
+      head-stop _ _ _ _ (c .before .loop .k) (c .before .loop .x) _ (omega arith) (c .before .loop .inv .4)
+          ∙ ap (λ (p : List ℕ). p ++ drop (c .before .before .response-steps .result) (start .args .plan .now)) (ap (λ (n : ℕ). stepsFrom (col hopColumn R) n i) e ∙ sym (follower-is R i)),
+    )
 
 pub write-response-spec : {M : Type 1} → statement M
 write-response-spec =
