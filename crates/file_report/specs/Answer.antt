@@ -5,7 +5,7 @@ use Prim.Native.Nat.{ℕ, _≤_}
 use lib.ListN.{replicate}
 use Rattle.strips.specs.declared.Task.{Task}
 use Rattle.task_format.specs.Parse.{Read}
-use Rattle.pareto.specs.declared.Entry.{Entry}
+use Rattle.outcome.specs.declared.Entry.{Entry}
 use Rattle.listing.specs.Slices.{Slices}
 use Rattle.printing.specs.Reported.{Returned, Outcome, blank, WithRoom}
 

@@ -9,7 +9,7 @@ use Rattle.search.specs.Reachable.{Fits}
 use Rattle.response.specs.Answered.{Lent, shortest}
 use Rattle.pareto.specs.Front.{Line, Front}
 use Rattle.pareto.specs.Layout.{entryFor, plansFor}
-use Rattle.pareto.specs.declared.Entry.{Entry}
+use Rattle.outcome.specs.declared.Entry.{Entry}
 use Rattle.pareto.specs.Returned.{Returned, refused, listed}
 use Rattle.listing.specs.Slices.{Slices, sizes, leftIn}
 

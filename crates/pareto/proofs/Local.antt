@@ -31,7 +31,7 @@ use denote.Struct.Laws as LL
 use denote.Lend.{Held, Lent, lends-slice}
 use denote.Index.{row, whole-in, whole-out}
 use borrow.Table.Elements.{at, cut-app, join-app}
-use Rattle.pareto.specs.declared.Entry.{Entry}
+use Rattle.outcome.specs.declared.Entry.{Entry}
 use Rattle.pareto.proofs.Entry as T
 use Rattle.pareto.proofs.Entry.Laws as T′
 

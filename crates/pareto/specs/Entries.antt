@@ -5,7 +5,7 @@ use lib.ListN.{getD, set, replicate}
 use Rattle.strips.specs.Limits.{maxFollower}
 use Rattle.outcome.specs.declared.Answer.{Answer}
 use Rattle.outcome.specs.declared.Answer.the-variants.{Cost, None}
-use Rattle.pareto.specs.declared.Entry.{Entry}
+use Rattle.outcome.specs.declared.Entry.{Entry}
 
 -- the numbers of a row, each at its place
 abbrev pub rowPrice : List ℕ → ℕ

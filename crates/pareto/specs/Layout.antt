@@ -6,7 +6,7 @@ use Rattle.outcome.specs.Answer.{Value, minutes, none}
 use Rattle.outcome.specs.declared.Answer.{Answer}
 use Rattle.outcome.specs.declared.Answer.the-variants.{Cost, None}
 use Rattle.pareto.specs.Front.{Line}
-use Rattle.pareto.specs.declared.Entry.{Entry}
+use Rattle.outcome.specs.declared.Entry.{Entry}
 
 -- the entry of a line
 unfoldable pub answerFor : Value → Answer

@@ -11,7 +11,7 @@ use Rattle.search.specs.Reachable.{Fits}
 use Rattle.response.specs.Answered.{Lent, shortest}
 use Rattle.pareto.specs.Front.{Line, Front}
 use Rattle.pareto.specs.Layout.{entryFor, plansFor}
-use Rattle.pareto.specs.declared.Entry.{Entry}
+use Rattle.outcome.specs.declared.Entry.{Entry}
 use Rattle.report_text.specs.Report.{reportText}
 use Rattle.listing.specs.Slices.{Slices, sizes, leftIn}
 use Rattle.printing.specs.declared.Reported.{Reported}

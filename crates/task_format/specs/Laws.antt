@@ -1,5 +1,4 @@
 -- What is proved about the meanings.
-pub mod Choice
 pub mod Parse
 pub mod Text
 pub mod Lines

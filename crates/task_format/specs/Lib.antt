@@ -1,5 +1,4 @@
 -- What the hall file means, each file a page; `Laws` has what is proved about these meanings.
-pub mod Choice
 pub mod Limits
 pub mod Text
 pub mod Value

@@ -7,7 +7,7 @@ use Rattle.strips.specs.Limits.{maxFacts, maxLeader, maxFollower, maxCost}
 use Rattle.strips.specs.Task.{idle}
 use Rattle.strips.specs.declared.Action.{Action}
 use Rattle.strips.specs.declared.Task.{Task}
-use Rattle.task_format.specs.Choice.{pick}
+use Rattle.strips.specs.Choice.{pick}
 use Rattle.task_format.specs.Text.{bytes}
 use Rattle.task_format.specs.declared.Kind.{Kind}
 use Rattle.task_format.specs.declared.Kind.the-variants.{Number, FactList}

@@ -4,7 +4,7 @@ use mathlib.Core.List.{List, [], _∷_, _++_}
 use Prim.Native.Nat.{ℕ, zero, suc, _+_, _/_, _%_}
 use lib.Dec.{eqb, ltb}
 use Rattle.strips.specs.declared.Task.{Task}
-use Rattle.task_format.specs.Choice.{pick}
+use Rattle.strips.specs.Choice.{pick}
 use Rattle.task_format.specs.Limits.{maxDigits}
 use Rattle.task_format.specs.Text.{newline, comma, zeroDigit}
 use Rattle.task_format.specs.Lines.{keyOf, kindOf, lastLine, field}

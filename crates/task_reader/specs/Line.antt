@@ -7,7 +7,7 @@ use lib.Dec.{eqb, ltb}
 use lib.ListN.{length, drop}
 use Rattle.strips.specs.Limits.{maxFacts, maxLeader, maxFollower}
 use Rattle.strips.specs.declared.Task.{Task}
-use Rattle.task_format.specs.Choice.{pick}
+use Rattle.strips.specs.Choice.{pick}
 use Rattle.task_format.specs.Text.{newline, begins, lines}
 use Rattle.task_format.specs.Lines.{kindOf, actionOf, Room}
 use Rattle.task_format.specs.Parse.{follow, zeros}

@@ -7,7 +7,7 @@ use Rattle.strips.specs.Task.{idle}
 use Rattle.strips.specs.declared.Action.{Action}
 use Rattle.strips.specs.declared.Task.{Task}
 use Rattle.outcome.specs.declared.Answer.the-variants.{Cost}
-use Rattle.pareto.specs.declared.Entry.{Entry}
+use Rattle.outcome.specs.declared.Entry.{Entry}
 
 abbrev pub act : ℕ → ℕ → ℕ → ℕ → Action
 act c p d a = record { cost = c; precondition = p; delete = d; add = a }

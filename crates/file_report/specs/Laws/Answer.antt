@@ -17,7 +17,7 @@ use Rattle.search.specs.Limits.{maxPlaces}
 use Rattle.outcome.specs.Laws.Refusal.{number-some}
 use Rattle.pareto.specs.Front.{Line, Front}
 use Rattle.pareto.specs.Laws.Unique.{front-unique}
-use Rattle.pareto.specs.declared.Entry.{Entry}
+use Rattle.outcome.specs.declared.Entry.{Entry}
 use Rattle.report_text.specs.Report.{reportText}
 use Rattle.listing.specs.Slices.{Slices, slices, sizes}
 use Rattle.printing.specs.declared.Reported.the-variants.{Refused as Report-Refused}

@@ -22,7 +22,7 @@ use Rattle.response.specs.Answered.{shortest}
 use Rattle.pareto.specs.Front.{Line, Front}
 use Rattle.pareto.specs.Layout.{plansFor}
 use Rattle.pareto.specs.Laws.Unique.{front-unique}
-use Rattle.pareto.specs.declared.Entry.{Entry}
+use Rattle.outcome.specs.declared.Entry.{Entry}
 use Rattle.report_text.specs.Report.{reportText, refusalText}
 use Rattle.report_text.specs.Laws.Sizes.{refusal-few}
 use Rattle.printing.specs.declared.Reported.{Reported}

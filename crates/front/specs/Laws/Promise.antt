@@ -5,7 +5,7 @@ use native.Mathlib.Omega.{arith}
 use lib.ListN.{length}
 use Rattle.strips.specs.declared.Task.{Task}
 use Rattle.pareto.specs.Entries.{filled}
-use Rattle.pareto.specs.declared.Entry.{Entry}
+use Rattle.outcome.specs.declared.Entry.{Entry}
 use Rattle.lines.specs.Limits.{anyText}
 use Rattle.pareto.specs.Returned.{Returned}
 use Rattle.lines.specs.Drawing as D

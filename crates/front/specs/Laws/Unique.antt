@@ -6,7 +6,7 @@ use native.Mathlib.Omega.{arith}
 use lib.ListN.{length}
 use Rattle.strips.specs.declared.Task.{Task}
 use Rattle.pareto.specs.Laws.Unique.{front-unique}
-use Rattle.pareto.specs.declared.Entry.{Entry}
+use Rattle.outcome.specs.declared.Entry.{Entry}
 use Rattle.pareto.specs.Layout.{plansFor}
 use Rattle.pareto.specs.Returned.{Returned}
 use Rattle.front.specs.Fronted.{Listed, too-many, no-entries, no-plans, lists, Outcome, refused-8, refused-9, lists-front, Promised}

@@ -46,7 +46,7 @@ use denote.Exit.{yes}
 use Rattle.strips.specs.declared.Task.{Task}
 use Rattle.strips.proofs.Task as TT
 use Rattle.strips.proofs.Task.Laws as TT′
-use Rattle.pareto.specs.declared.Entry.{Entry}
+use Rattle.outcome.specs.declared.Entry.{Entry}
 use Rattle.pareto.proofs.Rows.{row, rows-slot}
 use Rattle.pareto.proofs.Local.{valueOf, behind, lends-first, first-home}
 use Rattle.pareto.proofs.Entry as T

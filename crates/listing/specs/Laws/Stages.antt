@@ -14,7 +14,7 @@ use Rattle.pareto.specs.Front.{Line}
 use Rattle.pareto.specs.Entries.{entryOf, filled, emptied}
 use Rattle.pareto.specs.Layout.{entryFor}
 use Rattle.pareto.specs.Laws.Entries.{filled-is}
-use Rattle.pareto.specs.declared.Entry.{Entry}
+use Rattle.outcome.specs.declared.Entry.{Entry}
 use Rattle.pareto.specs.Returned.{Returned, refused}
 use Rattle.lines.specs.Drawing.{Drawn, no-entries, no-plans, no-text, drawn}
 use Rattle.listing.specs.Slices.{Slices, sizes, cleared, clearedBut, withoutRows}

@@ -7,7 +7,7 @@ use lib.ListN.{length, getD, set, take, drop, replicate, length-map, length-take
 use lib.Seq.{take-suc, drop-cons, getD-set-other, set-at}
 use Rattle.strips.specs.Limits.{maxFollower}
 use Rattle.pareto.specs.Entries.{entryOf, entryAt, filled, emptied}
-use Rattle.pareto.specs.declared.Entry.{Entry}
+use Rattle.outcome.specs.declared.Entry.{Entry}
 
 -- a list that is written from the front, one place after another
 pub front-more : {A B : Type 0} (f : B → A) (d : B) (xs : List B) (old : List A) (k : ℕ) → k < length xs → k < length old

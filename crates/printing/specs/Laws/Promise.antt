@@ -11,7 +11,7 @@ use Rattle.rows.specs.Cleared.{zeroRows}
 use Rattle.pareto.specs.Front.{Line, Front}
 use Rattle.pareto.specs.Entries.{filled, emptied}
 use Rattle.pareto.specs.Laws.Entries.{emptied-is}
-use Rattle.pareto.specs.declared.Entry.{Entry}
+use Rattle.outcome.specs.declared.Entry.{Entry}
 use Rattle.report_text.specs.Rows as R
 use Rattle.pareto.specs.Returned as F
 use Rattle.lines.specs.Drawing as D

@@ -8,7 +8,7 @@ use Rattle.strips.specs.declared.Task.{Task}
 use Rattle.pareto.specs.Front.{Line}
 use Rattle.pareto.specs.Layout.{plansFor}
 use Rattle.pareto.specs.Laws.Unique.{front-unique}
-use Rattle.pareto.specs.declared.Entry.{Entry}
+use Rattle.outcome.specs.declared.Entry.{Entry}
 use Rattle.report_text.specs.Report.{reportText}
 use Rattle.listing.specs.Slices.{Slices, leftIn}
 use Rattle.printing.specs.Reported.{Returned, Told, too-many, no-entries, no-plans, no-text, tells, Outcome, refused-8, refused-9, tells-front, Promised, WithRoom}

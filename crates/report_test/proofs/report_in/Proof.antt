@@ -48,7 +48,7 @@ use denote.Exit.{yes}
 use Rattle.strips.specs.declared.Task.{Task}
 use Rattle.strips.proofs.Task as TT
 use Rattle.strips.proofs.Task.Laws as TT′
-use Rattle.pareto.specs.declared.Entry.{Entry}
+use Rattle.outcome.specs.declared.Entry.{Entry}
 use Rattle.pareto.proofs.Rows.{row, rows-slot}
 use Rattle.pareto.proofs.Local.{valueOf, lends-array, array-home}
 use Rattle.pareto.proofs.Entry as T

@@ -7,7 +7,7 @@ use native.Mathlib.Omega.{arith}
 use lib.ListN.{length, getD, take, drop, length-append, length-take, length-map, drop-of-length-le}
 use lib.Seq.{take-at, drop-at, drop-cons, drop-drop, getD-take}
 use Rattle.pareto.specs.Front.{Line}
-use Rattle.pareto.specs.declared.Entry.{Entry}
+use Rattle.outcome.specs.declared.Entry.{Entry}
 use Rattle.pareto.specs.Entries.{leaderSteps, followerSteps, entryOf}
 use Rattle.pareto.specs.Layout.{entryFor, plansFor}
 use Rattle.report_text.specs.Report.{lineText, linesText}

@@ -11,7 +11,7 @@ use Rattle.outcome.specs.Answer.{Value, minutes, none, valueOf}
 use Rattle.task_format.specs.Text.{newline, comma}
 use Rattle.task_format.specs.Lines.{outagesKey, movesKey}
 use Rattle.pareto.specs.Front.{Line}
-use Rattle.pareto.specs.declared.Entry.{Entry}
+use Rattle.outcome.specs.declared.Entry.{Entry}
 use Rattle.pareto.specs.Entries.{rowPrice, rowMark, rowMinutes, answerOf, entryOf}
 use Rattle.pareto.specs.Layout.{answerFor, entryFor}
 use Rattle.report_text.specs.Report.{entriesKey, priceKey, answerKey, noneWord, numeral, furtherText, planText, answerText, printed, lineText, linesText, headText, reportText, refusedKey, lineKey, refusalText}

@@ -11,11 +11,11 @@ use Rattle.strips.specs.Limits.{maxLeader, maxFollower, maxCost}
 use Rattle.strips.specs.Task.{idle, Proper, Valid}
 use Rattle.strips.specs.declared.Action.{Action}
 use Rattle.strips.specs.declared.Task.{Task}
-use Rattle.task_format.specs.Choice.{pick}
+use Rattle.strips.specs.Choice.{pick}
 use Rattle.task_format.specs.Value.{OfKind}
 use Rattle.task_format.specs.Lines.{kindOf, lastLine, partOf, actionOf, actionField, withAction, field, stored}
 use Rattle.task_format.specs.Parse.{zeros}
-use Rattle.task_format.specs.Laws.Choice.{by-test, either}
+use Rattle.strips.specs.Laws.Choice.{by-test, either}
 use Rattle.task_format.specs.Laws.Fields.{by-line}
 use Rattle.task_format.specs.Laws.Lines.{other, field-rest, kind-rest, stored-rest}
 use Rattle.task_format.specs.declared.Kind.{Kind}

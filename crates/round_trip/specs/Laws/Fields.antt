@@ -12,7 +12,7 @@ use Rattle.strips.specs.Task.{idle}
 use Rattle.strips.specs.declared.Action.{Action}
 use Rattle.strips.specs.declared.Task.{Task}
 use Rattle.task_format.specs.Lines.{partOf, withPart, actionOf, actionField, withAction, field, stored}
-use Rattle.task_format.specs.Laws.Choice.{by-test, either}
+use Rattle.strips.specs.Laws.Choice.{by-test, either}
 use Rattle.task_format.specs.Laws.Fields.{by-line}
 use Rattle.task_format.specs.Laws.Lines.{other, field-rest, stored-rest}
 

@@ -15,7 +15,7 @@ use Rattle.task_format.specs.Value.{content, OfKind}
 use Rattle.task_format.specs.Lines.{keyOf, kindOf, lastLine, field, stored}
 use Rattle.task_format.specs.Parse.{Read, refused, accepted, fault, judged, follow}
 use Rattle.task_format.specs.Render.{valueText, lineText, linesText}
-use Rattle.task_format.specs.Laws.Choice.{either, never}
+use Rattle.strips.specs.Laws.Choice.{either, never}
 use Rattle.task_format.specs.Laws.Fields.{field-holds, modest}
 use Rattle.task_format.specs.Laws.Parse.{judged-yes, judged-no, follow-end, follow-missing, follow-over, follow-key, follow-value}
 use Rattle.task_format.specs.Laws.Text.{key-of}

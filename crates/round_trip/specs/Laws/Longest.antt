@@ -10,11 +10,11 @@ use Rattle.strips.specs.Limits.{maxFacts, maxLeader, maxFollower, maxCost}
 use Rattle.strips.specs.Task.{idle, Proper, Places, Valid}
 use Rattle.strips.specs.declared.Action.{Action}
 use Rattle.strips.specs.declared.Task.{Task}
-use Rattle.task_format.specs.Choice.{pick}
+use Rattle.strips.specs.Choice.{pick}
 use Rattle.task_format.specs.Limits.{longestFile}
 use Rattle.task_format.specs.Lines.{keyOf, actionKey, kindOf, partOf, actionOf, actionField, field}
 use Rattle.task_format.specs.Render.{digitsOf, factsOf, listed, valueText, lineText, linesText, render}
-use Rattle.task_format.specs.Laws.Choice.{either}
+use Rattle.strips.specs.Laws.Choice.{either}
 use Rattle.task_format.specs.Laws.Lines.{other, key-rest, kind-rest, field-rest}
 use Rattle.task_format.specs.Laws.Size.{line-size, next-size}
 use Rattle.task_format.specs.declared.Kind.{Kind}

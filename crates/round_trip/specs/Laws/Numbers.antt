@@ -11,7 +11,7 @@ use Rattle.task_format.specs.Limits.{maxDigits}
 use Rattle.task_format.specs.Text.{zeroDigit}
 use Rattle.task_format.specs.Value.{All, IsDigit, IsNumber, decimalFrom, decimal}
 use Rattle.task_format.specs.Render.{digitsOf, digits}
-use Rattle.task_format.specs.Laws.Choice.{either}
+use Rattle.strips.specs.Laws.Choice.{either}
 use Rattle.task_format.specs.Laws.Value.{nil}
 use Rattle.task_format.specs.Laws.Digits.{digits-short, digits-long, digits-some, digits-few}
 use Rattle.task_format.specs.Laws.Decimal.{digits-are, fuel}

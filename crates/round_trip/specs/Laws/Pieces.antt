@@ -7,9 +7,9 @@ use native.Mathlib.Omega.{arith}
 use lib.Dec.{eqb}
 use lib.ListN.{length, length-append}
 use borrow.Author.Tests.{ne-eqb, eqb-true}
-use Rattle.task_format.specs.Choice.{pick}
+use Rattle.strips.specs.Choice.{pick}
 use Rattle.task_format.specs.Text.{newline, comma, push, split, lines, parts}
-use Rattle.task_format.specs.Laws.Choice.{by-test, either}
+use Rattle.strips.specs.Laws.Choice.{by-test, either}
 use Rattle.task_format.specs.Laws.Text.{split-at, split-more, parts-some}
 use Rattle.task_format.specs.Laws.Decimal.{Without}
 

@@ -14,7 +14,7 @@ use Rattle.task_format.specs.Text.{newline, lines}
 use Rattle.task_format.specs.Lines.{lastLine}
 use Rattle.task_format.specs.Parse.{Read, zeros, accepted, follow, parse}
 use Rattle.task_format.specs.Render.{linesText, render}
-use Rattle.task_format.specs.Laws.Choice.{either}
+use Rattle.strips.specs.Laws.Choice.{either}
 use Rattle.task_format.specs.Laws.Parse.{parse-long, parse-lines}
 use Rattle.task_format.specs.Laws.Size.{render-size}
 use Rattle.round_trip.specs.Laws.Pieces.{ended, lines-ended, cancel}

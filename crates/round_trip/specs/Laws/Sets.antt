@@ -9,7 +9,7 @@ use lib.Pow.{pow-mono}
 use borrow.Author.Tests.{eq-eqb, ne-eqb, eqb-true, eqb-false}
 use Rattle.task_format.specs.Value.{All, Between, RisesFrom, Rises, setOf}
 use Rattle.task_format.specs.Render.{factsOf}
-use Rattle.task_format.specs.Laws.Choice.{by-test, either}
+use Rattle.strips.specs.Laws.Choice.{by-test, either}
 use Rattle.task_format.specs.Laws.Value.{doubled}
 
 -- the facts rise from above lo and are at most `most`

@@ -3,7 +3,7 @@ use mathlib.Core.Path.{refl}
 use borrow.Author.Needs.{needs}
 use borrow.Author.Tests.{eq-eqb, ne-eqb}
 use Rattle.task_format.specs.Lines.{kindOf}
-use Rattle.task_format.specs.Laws.Choice.{at}
+use Rattle.strips.specs.Laws.Choice.{at}
 use Rattle.task_format.proofs.kind_of.Statement.{statement}
 use Rattle.task_format.proofs.kind_of.Tie as tie
 

@@ -7,11 +7,11 @@ use native.Mathlib.Nat.{pow-suc}
 use lib.Dec.{ltb}
 use lib.ListN.{length, getD, List·getD-append}
 use borrow.Author.Tests.{ltb-true, ltb-false}
-use Rattle.task_format.specs.Choice.{pick}
+use Rattle.strips.specs.Choice.{pick}
 use Rattle.task_format.specs.Text.{zeroDigit}
 use Rattle.task_format.specs.Value.{All, IsDigit, decimalFrom, decimal}
 use Rattle.task_format.specs.Render.{digitsOf}
-use Rattle.task_format.specs.Laws.Choice.{either}
+use Rattle.strips.specs.Laws.Choice.{either}
 use Rattle.task_format.specs.Laws.Digits.{digits-short, digits-long, shorter, digits-some}
 
 -- without the byte c

@@ -9,7 +9,7 @@ use lib.ListN.{length, length-append}
 use borrow.Author.Tests.{lt-ltb, le-ltb, ltb-true, ltb-false}
 use Rattle.task_format.specs.Text.{zeroDigit}
 use Rattle.task_format.specs.Render.{digitsOf, digits}
-use Rattle.task_format.specs.Laws.Choice.{by-test, either}
+use Rattle.strips.specs.Laws.Choice.{by-test, either}
 
 pub digits-short : (k n : ℕ) → 1 ≤ k → n < 10 → digitsOf k n ≡ (zeroDigit + n) ∷ []
 unfolding digitsOf

@@ -9,10 +9,10 @@ use Rattle.strips.specs.Limits.{maxFacts, maxCost}
 use Rattle.strips.specs.Task.{idle, Proper, Valid}
 use Rattle.strips.specs.declared.Action.{Action}
 use Rattle.strips.specs.declared.Task.{Task}
-use Rattle.task_format.specs.Choice.{pick}
+use Rattle.strips.specs.Choice.{pick}
 use Rattle.task_format.specs.Value.{OfKind, Modest}
 use Rattle.task_format.specs.Lines.{kindOf, lastLine, partOf, actionOf, actionField, field}
-use Rattle.task_format.specs.Laws.Choice.{by-test, either}
+use Rattle.strips.specs.Laws.Choice.{by-test, either}
 use Rattle.task_format.specs.Laws.Lines.{other, kind-rest, field-rest}
 use Rattle.task_format.specs.declared.Kind.{Kind}
 use Rattle.task_format.specs.declared.Kind.the-variants.{Number, FactList}

@@ -7,7 +7,7 @@ use lib.Dec.{eqb}
 use borrow.Author.Tests.{ne-eqb}
 use Rattle.strips.specs.Limits.{maxCost}
 use Rattle.strips.specs.declared.Task.{Task}
-use Rattle.task_format.specs.Choice.{pick}
+use Rattle.strips.specs.Choice.{pick}
 use Rattle.task_format.specs.Lines.{givesKey, keyOf, actionKey, kindOf, field, actionField, stored, withAction, actionOf}
 use Rattle.task_format.specs.declared.Kind.the-variants.{Number, FactList}
 

@@ -13,7 +13,7 @@ use Rattle.task_format.specs.Text.{lines, begins}
 use Rattle.task_format.specs.Value.{InForm, InRange, Ascending, content}
 use Rattle.task_format.specs.Lines.{keyOf, kindOf, lastLine, stored}
 use Rattle.task_format.specs.Parse.{Read, zeros, refused, accepted, fault, judged, follow, parse}
-use Rattle.task_format.specs.Laws.Choice.{never}
+use Rattle.strips.specs.Laws.Choice.{never}
 use Rattle.task_format.specs.Laws.Text.{lines-few}
 use Rattle.task_format.specs.Deciders.{same?, le?, true?, inForm?, inRange?, ascending?}
 use Rattle.task_format.specs.declared.Kind.{Kind}

@@ -9,11 +9,11 @@ use lib.ListN.{length, length-append}
 use borrow.Author.Tests.{ltb-true, ltb-false}
 use Rattle.strips.specs.Task.{Valid}
 use Rattle.strips.specs.declared.Task.{Task}
-use Rattle.task_format.specs.Choice.{pick}
+use Rattle.strips.specs.Choice.{pick}
 use Rattle.task_format.specs.Limits.{longestFile}
 use Rattle.task_format.specs.Lines.{keyOf, actionKey, kindOf, lastLine, field}
 use Rattle.task_format.specs.Render.{digits, factsOf, listed, valueText, lineText, linesText, render}
-use Rattle.task_format.specs.Laws.Choice.{by-test, either}
+use Rattle.strips.specs.Laws.Choice.{by-test, either}
 use Rattle.task_format.specs.Laws.Digits.{digits-one, digits-two, digits-few}
 use Rattle.task_format.specs.Laws.Lines.{other, key-rest, kind-rest}
 use Rattle.task_format.specs.declared.Kind.{Kind}

@@ -8,11 +8,11 @@ use lib.Dec.{eqb}
 use lib.ListN.{length, drop}
 use borrow.Author.Tests.{eq-eqb, ne-eqb, eqb-true}
 use borrow.Author.Needs.{needs}
-use Rattle.task_format.specs.Choice.{pick}
+use Rattle.strips.specs.Choice.{pick}
 use Rattle.task_format.specs.Text.{newline, comma, push, split, lines, parts, begins}
 use Rattle.task_format.specs.Value.{All}
 use Rattle.task_format.specs.Lines.{keyOf, actionKey}
-use Rattle.task_format.specs.Laws.Choice.{by-test, either, never}
+use Rattle.strips.specs.Laws.Choice.{by-test, either, never}
 
 module _ (c : ℕ) (end : List (List ℕ)) where
   pub split-at : (b : ℕ) (t : List ℕ) → b ≡ c → split c end (b ∷ t) ≡ [] ∷ split c end t

@@ -10,7 +10,7 @@ use lib.Seq.{drop-cons}
 use borrow.Author.Tests.{eq-eqb, ne-eqb}
 use Rattle.task_format.specs.Text.{begins}
 use Rattle.task_format.specs.Lines.{keyOf}
-use Rattle.task_format.specs.Laws.Choice.{either}
+use Rattle.strips.specs.Laws.Choice.{either}
 use Rattle.task_format.specs.Laws.Text.{key-of, begins-length}
 use Rattle.task_reader.specs.Line.{matched}
 

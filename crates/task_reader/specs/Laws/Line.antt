@@ -16,7 +16,7 @@ use Rattle.task_format.specs.Text.{newline, begins, split, lines}
 use Rattle.task_format.specs.Value.{InForm, content}
 use Rattle.task_format.specs.Lines.{keyOf, kindOf, lastLine, stored, withAction, actionOf}
 use Rattle.task_format.specs.Parse.{Read, zeros, refused, accepted, judged, follow}
-use Rattle.task_format.specs.Laws.Choice.{by-test, either, never}
+use Rattle.strips.specs.Laws.Choice.{by-test, either, never}
 use Rattle.task_format.specs.Laws.Text.{upTo, behind, lines-some, begins-line, upTo-drop, behind-drop, key-of}
 use Rattle.task_format.specs.Laws.Parse.{follow-end, follow-missing, follow-over, follow-key, follow-value, fault-form, judged-no}
 use Rattle.task_format.specs.declared.Kind.{Kind}

@@ -14,7 +14,7 @@ use Rattle.strips.specs.declared.Task.{Task}
 use Rattle.task_format.specs.Text.{newline, comma}
 use Rattle.task_format.specs.Lines.{keyOf, kindOf, partOf, actionOf, actionField, field, lastLine}
 use Rattle.task_format.specs.Render.{digits, factsOf, listed, valueText, lineText, linesText, render}
-use Rattle.task_format.specs.Laws.Choice.{either}
+use Rattle.strips.specs.Laws.Choice.{either}
 use Rattle.task_format.specs.Laws.Digits.{digits-some}
 use Rattle.task_format.specs.Value.{OfKind, Modest}
 use Rattle.task_format.specs.Laws.Fields.{field-holds, modest}

@@ -10,7 +10,7 @@ use lib.Pow.{pow-lt, pow-mono}
 use Rattle.strips.specs.Limits.{maxFacts}
 use Rattle.task_format.specs.Text.{comma, parts}
 use Rattle.task_format.specs.Value.{All, decimalFrom, decimal, RisesFrom, Between, InForm, setOf}
-use Rattle.task_format.specs.Laws.Choice.{never}
+use Rattle.strips.specs.Laws.Choice.{never}
 use Rattle.task_format.specs.Laws.Value.{doubled}
 use Rattle.task_format.specs.Laws.Text.{split-at, parts-some}
 use Rattle.task_format.specs.declared.Kind.the-variants.{FactList}

@@ -11,7 +11,7 @@ use Rattle.outcome.specs.declared.Refusal.the-variants.{Malformed, OutOfRange, 
 use Rattle.task_format.specs.Text.{split, parts}
 use Rattle.task_format.specs.Value.{All, decimalFrom, decimal, members, Between, InForm, InRange, Ascending, setOf, content}
 use Rattle.task_format.specs.Parse.{refused, fault}
-use Rattle.task_format.specs.Laws.Choice.{never}
+use Rattle.strips.specs.Laws.Choice.{never}
 use Rattle.task_format.specs.Laws.Value.{members-some}
 use Rattle.task_format.specs.Laws.Parse.{fault-form, fault-range, fault-rising, fault-none, judged-yes, judged-no}
 use Rattle.task_format.specs.declared.Kind.{Kind}

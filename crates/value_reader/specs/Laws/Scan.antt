@@ -11,7 +11,7 @@ use lib.ListN.{length}
 use Rattle.task_format.specs.Limits.{maxDigits}
 use Rattle.task_format.specs.Text.{comma, push, parts}
 use Rattle.task_format.specs.Value.{All, IsDigit, IsNumber, decimalFrom, decimal, Rises, Between, InForm, setOf}
-use Rattle.task_format.specs.Laws.Choice.{never}
+use Rattle.strips.specs.Laws.Choice.{never}
 use Rattle.task_format.specs.Laws.Text.{split-more, parts-some}
 use Rattle.task_format.specs.declared.Kind.{Kind}
 use Rattle.task_format.specs.declared.Kind.the-variants.{Number, FactList}

@@ -41,7 +41,7 @@ use denote.Exit.{yes}
 use Rattle.strips.specs.declared.Task.{Task}
 use Rattle.strips.proofs.Task as TT
 use Rattle.strips.proofs.Task.Laws as TT′
-use Rattle.pareto.specs.declared.Entry.{Entry}
+use Rattle.outcome.specs.declared.Entry.{Entry}
 use Rattle.pareto.specs.Entries.{filled, emptied}
 use Rattle.pareto.proofs.Rows.{row, rows-slot}
 use Rattle.pareto.proofs.Again.{LentAgain, lends-again, comes-back}

@@ -49,7 +49,7 @@ use denote.Triple.Table.{entered, cited}
 use denote.Triple.Walked.{says, needs, Stays, stay-none, stay-slice, walkOf, goes-none, goes-slice, Walks, ends-at, walked, walk-meets}
 use denote.Exit.{yes}
 use Rattle.strips.specs.Limits.{maxFollower}
-use Rattle.pareto.specs.declared.Entry.{Entry}
+use Rattle.outcome.specs.declared.Entry.{Entry}
 use Rattle.pareto.specs.Entries.{entryAt, filled, emptied}
 use Rattle.pareto.specs.Laws.Entries.{filled-length, emptied-length, emptied-entry}
 use Rattle.pareto.proofs.Rows.{row, rows-slot}

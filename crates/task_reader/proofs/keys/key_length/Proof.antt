@@ -3,7 +3,7 @@ use lib.ListN.{drop}
 use denote.Ref.{now}
 use borrow.Author.Needs.{needs}
 use Rattle.task_format.specs.Lines.{keyOf, actionKey}
-use Rattle.task_format.specs.Laws.Choice.{at}
+use Rattle.strips.specs.Laws.Choice.{at}
 use Rattle.task_format.specs.Laws.Lines.{key-at, key-gives}
 use Rattle.task_reader.specs.Line.{matched}
 use Rattle.task_reader.proofs.keys.key_length.Statement.{statement}

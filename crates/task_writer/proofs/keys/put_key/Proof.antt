@@ -4,7 +4,7 @@ use native.Mathlib.Omega.{arith}
 use lib.ListN.{length}
 use borrow.Author.Needs.{needs}
 use Rattle.task_format.specs.Lines.{keyOf, actionKey}
-use Rattle.task_format.specs.Laws.Choice.{at}
+use Rattle.strips.specs.Laws.Choice.{at}
 use Rattle.task_format.specs.Laws.Lines.{key-at, key-gives}
 use Rattle.task_writer.proofs.keys.put_key.Statement.{statement}
 use Rattle.task_writer.proofs.keys.put_key.Tie as tie

@@ -3,7 +3,7 @@ use mathlib.Core.Path.{sym, _∙_}
 use native.Mathlib.Omega.{arith}
 use borrow.Author.Needs.{needs}
 use borrow.Author.Tests.{not-true, not-false}
-use Rattle.task_format.specs.Laws.Choice.{never}
+use Rattle.strips.specs.Laws.Choice.{never}
 use Rattle.value_reader.specs.Laws.Closing.{closed-outside, closed-flat, closed-after, closed-more, joined-fits}
 use Rattle.value_reader.proofs.values.close.Statement.{statement}
 use Rattle.value_reader.proofs.values.close.Tie as tie

@@ -1,0 +1,5 @@
+-- What is proved about questions and promises.
+pub mod Asked
+pub mod Record
+pub mod Size
+pub mod Unique
