@@ -2,6 +2,5 @@
 pub mod Numerals
 pub mod Injective
 pub mod Sizes
-pub mod Rows
+pub mod Entries
 pub mod Putting
-pub mod Reporting

@@ -2,14 +2,13 @@
 ghost use mathlib.Core.Path.{_≡_};
 ghost use Prim.Native.Nat.{_+_, _*_, _≤_};
 ghost use lib.ListN.{length};
+ghost use Rattle.outcome.specs.Answer.{valueOf};
 ghost use Rattle.search.specs.Limits.{maxPlaces};
 ghost use Rattle.text_output.specs.Puts.{numberDigits};
 ghost use Rattle.report_text.specs.Report.{numeral, planText, answerText, headText};
-ghost use Rattle.report_text.specs.Rows.{rowAnswer, entryBytes};
-use pareto::MARK;
-use pareto::MINUTES;
-use pareto::PRICE;
-use strips::MAX_FOLLOWER;
+ghost use Rattle.report_text.specs.Entries.{entryBytes};
+use outcome::Answer;
+use outcome::Entry;
 
 pub fn digit_count(n: u32) -> usize
     ensures { λ r. ⌜ (r ≡ length (numeral n)) × (r ≤ numberDigits) ⌝ }
@@ -40,20 +39,22 @@ pub fn plan_bytes(plan: &[u8]) -> usize
     total
 }
 
-fn answer_bytes(mark: u32, minutes: u32) -> usize
-    ensures { λ r. ⌜ (r ≡ length (answerText (rowAnswer mark minutes))) × (r ≤ numberDigits) ⌝ }
+fn answer_bytes(answer: Answer) -> usize
+    ensures { λ r. ⌜ (r ≡ length (answerText (valueOf answer))) × (r ≤ numberDigits) ⌝ }
 {
-    if mark == 0 {
-        return 4;
+    match answer {
+        Answer::None => 4,
+        Answer::Cost(minutes) => digit_count(minutes.0),
     }
-    digit_count(minutes)
 }
 
 // A line apart from its plans: 31 bytes are its four keys and newlines.
-pub fn entry_bytes(row: [u32; MAX_FOLLOWER]) -> usize
-    ensures { λ r. ⌜ (r ≡ entryBytes row) × (r ≤ 31 + 2 * numberDigits) ⌝ }
+pub fn entry_bytes(entry: Entry) -> usize
+    ensures { λ r. ⌜ (r ≡ entryBytes entry) × (r ≤ 31 + 2 * numberDigits) ⌝ }
 {
-    31 + digit_count(row[PRICE]) + answer_bytes(row[MARK], row[MINUTES])
+    let price = entry.price;
+    let answer = entry.answer;
+    31 + digit_count(price.0) + answer_bytes(answer)
 }
 
 // The first printed line: 9 bytes are its key and newline.

@@ -7,5 +7,6 @@ pub use counting::digit_count;
 pub use counting::entry_bytes;
 pub use counting::head_bytes;
 pub use counting::plan_bytes;
+pub use putting::put_entry;
+pub use putting::put_head;
 pub use putting::put_refusal;
-pub use putting::put_report;

@@ -1,7 +1,7 @@
 -- The bytes of a front's text, part by part.
 use mathlib.Core.Path.{_≡_, refl, sym, ap, _∙_}
 use mathlib.Core.List.{List, [], _∷_, _++_}
-use Prim.Native.Nat.{ℕ, zero, suc, _+_, _*_, _/_, _≤_, _<_}
+use Prim.Native.Nat.{ℕ, _+_, _*_, _/_, _≤_, _<_}
 use native.Mathlib.Omega.{arith}
 use native.Mathlib.Numerals.{add-one}
 use lib.ListN.{length, getD, drop, length-append, drop-of-length-le}
@@ -11,11 +11,13 @@ use Rattle.outcome.specs.Answer.{Value, minutes, none, valueOf}
 use Rattle.task_format.specs.Text.{newline, comma}
 use Rattle.task_format.specs.Lines.{outagesKey, movesKey}
 use Rattle.pareto.specs.Front.{Line}
+use Rattle.outcome.specs.declared.Answer.{Answer}
+use Rattle.outcome.specs.declared.Answer.the-variants.{Cost, None}
+use Rattle.outcome.specs.declared.Minutes.{Minutes}
 use Rattle.outcome.specs.declared.Entry.{Entry}
-use Rattle.pareto.specs.Entries.{rowPrice, rowMark, rowMinutes, answerOf, entryOf}
 use Rattle.pareto.specs.Layout.{answerFor, entryFor}
 use Rattle.report_text.specs.Report.{entriesKey, priceKey, answerKey, noneWord, numeral, furtherText, planText, answerText, printed, lineText, linesText, headText, reportText, refusedKey, lineKey, refusalText}
-use Rattle.report_text.specs.Rows.{rowAnswer, rowLine, entryBytes}
+use Rattle.report_text.specs.Entries.{lineOf, entryBytes}
 use Rattle.text_output.specs.Puts.{numberDigits}
 use Rattle.report_text.specs.Laws.Numerals.{numeral-short, numeral-long, number-few}
 
@@ -55,14 +57,13 @@ further-length plan i h = ap length (further-turn plan i h) ∙ omega (arith, le
 
 -- ---- answers
 
-pub none-bytes : (mark m : ℕ) → mark ≡ 0 → answerText (rowAnswer mark m) ≡ noneWord
-unfolding answerOf answerText
-none-bytes mark m e = rw e refl
+pub none-bytes : {a : Answer} → a ≡ None → answerText (valueOf a) ≡ noneWord
+unfolding answerText
+none-bytes e = rw e refl
 
-pub minutes-bytes : (mark m : ℕ) → (mark ≡ 0 → ⊥) → answerText (rowAnswer mark m) ≡ numeral m
-unfolding answerOf answerText
-minutes-bytes zero m n = absurd (n refl)
-minutes-bytes (suc k) m n = refl
+pub minutes-bytes : {a : Answer} {m : Minutes} → a ≡ Cost m → answerText (valueOf a) ≡ numeral (m .0)
+unfolding answerText
+minutes-bytes e = rw e refl
 
 -- ---- lines
 
@@ -91,32 +92,30 @@ line-length l =
       printed-length movesKey (planText (l .follower-plan)),
     )
 
-pub entry-bytes : (row : List ℕ) → entryBytes row ≡ 31 + length (numeral (rowPrice row)) + length (answerText (rowAnswer (rowMark row) (rowMinutes row)))
+pub entry-bytes : (e : Entry) → entryBytes e ≡ 31 + length (numeral (e .price .0)) + length (answerText (valueOf (e .answer)))
 unfolding entryBytes planText
-entry-bytes row = line-length (rowLine row [] []) ∙ omega arith
-
--- the bytes of a row's line
-row-bytes : (row p q : List ℕ) → length (lineText (rowLine row p q)) ≡ entryBytes row + length (planText p) + length (planText q)
-row-bytes row p q = omega (arith, line-length (rowLine row p q), entry-bytes row)
+entry-bytes e = line-length (lineOf e [] []) ∙ omega arith
 
 answer-back : (a : Value) → valueOf (answerFor a) ≡ a
 unfolding answerFor
 answer-back (minutes n) = refl
 answer-back none = refl
 
--- a row with the entry of a line has that line
-pub row-line : (row : List ℕ) (l : Line) → entryOf row ≡ entryFor l → rowLine row (l .leader-plan) (l .follower-plan) ≡ l
-unfolding entryOf entryFor
-row-line row l e =
+-- the entry of a line with its plans says the line
+pub entry-line : (e : Entry) (l : Line) → e ≡ entryFor l → lineOf e (l .leader-plan) (l .follower-plan) ≡ l
+unfolding entryFor
+entry-line e l is =
     λ k. record {
-      price = ap (λ (x : Entry). x .price .0) e k;
-      answer = (ap (λ (x : Entry). valueOf (x .answer)) e ∙ answer-back (l .answer)) k;
+      price = ap (λ (x : Entry). x .price .0) is k;
+      answer = (ap (λ (x : Entry). valueOf (x .answer)) is ∙ answer-back (l .answer)) k;
       leader-plan = l .leader-plan;
       follower-plan = l .follower-plan;
     }
 
-pub line-bytes : (row : List ℕ) (l : Line) → entryOf row ≡ entryFor l → length (lineText l) ≡ entryBytes row + length (planText (l .leader-plan)) + length (planText (l .follower-plan))
-line-bytes row l e = ap (λ (x : Line). length (lineText x)) (sym (row-line row l e)) ∙ row-bytes row (l .leader-plan) (l .follower-plan)
+pub line-bytes : (e : Entry) (l : Line) → e ≡ entryFor l → length (lineText l) ≡ entryBytes e + length (planText (l .leader-plan)) + length (planText (l .follower-plan))
+line-bytes e l is =
+    let whole = lineOf e (l .leader-plan) (l .follower-plan) in
+    ap (λ (x : Line). length (lineText x)) (sym (entry-line e l is)) ∙ omega (arith, line-length whole, entry-bytes e)
 
 -- ---- the whole text
 

@@ -5,20 +5,11 @@ use Rattle.report_text.specs.Laws.Sizes.{entry-bytes}
 use Rattle.report_text.proofs.counting.entry_bytes.Statement.{statement}
 use Rattle.report_text.proofs.counting.entry_bytes.Tie as tie
 
-array-read-digit-count : tie.Need-array-read-digit-count
-array-read-digit-count c = search needs
-
 digit-count-requires : tie.Need-digit-count-requires
 digit-count-requires c κs = search needs
 
 add-result : tie.Need-add-result
 add-result c = omega (arith, c .digit-count .ensures .1)
-
-array-read-answer-bytes : tie.Need-array-read-answer-bytes
-array-read-answer-bytes c = search needs
-
-array-read-answer-bytes-2 : tie.Need-array-read-answer-bytes-2
-array-read-answer-bytes-2 c = search needs
 
 answer-bytes-requires : tie.Need-answer-bytes-requires
 answer-bytes-requires c κs = search needs
@@ -30,17 +21,14 @@ returns : tie.Need-returns
 returns c =
     let price = c .before .digit-count .ensures in
     let answer = c .answer-bytes .ensures in
-    (omega (arith, entry-bytes (c .before .before .args .t1), price .0, answer .0), omega (arith, price .1, answer .1))
+    (omega (arith, entry-bytes (c .before .before .before .args .entry), price .0, answer .0), omega (arith, price .1, answer .1))
 
 pub entry-bytes-spec : {M : Type 1} → statement M
 entry-bytes-spec =
     tie.close
     (tie.spec
-    array-read-digit-count
     digit-count-requires
     add-result
-    array-read-answer-bytes
-    array-read-answer-bytes-2
     answer-bytes-requires
     add-result-2
     returns)

@@ -1,25 +1,19 @@
--- `report_text::putting::put_entry` meets its contract: the two parts are the line's plans.
+-- `report_text::putting::put_entry` meets its contract.
 use mathlib.Core.Path.{ap}
 use native.Mathlib.Omega.{arith}
 use lib.ListN.{length}
 use borrow.Author.Needs.{needs}
 use Rattle.pareto.specs.Front.{Line}
 use Rattle.report_text.specs.Report.{lineText}
-use Rattle.report_text.specs.Laws.Rows.{line-parts}
+use Rattle.report_text.specs.Laws.Entries.{line-parts}
 use Rattle.report_text.proofs.putting.put_entry.Statement.{statement}
 use Rattle.report_text.proofs.putting.put_entry.Tie as tie
-
-array-read-moves-from : tie.Need-array-read-moves-from
-array-read-moves-from c = search needs
 
 cast-moves-from : tie.Need-cast-moves-from
 cast-moves-from c = search needs
 
 add-moves-from : tie.Need-add-moves-from
 add-moves-from c = search needs
-
-array-read-end : tie.Need-array-read-end
-array-read-end c = search needs
 
 cast-end : tie.Need-cast-end
 cast-end c = search needs
@@ -47,25 +41,23 @@ part-put-line-end-2 c = search needs
 
 put-line-requires : tie.Need-put-line-requires
 put-line-requires c κs =
-    let start = c .before .before .before .before .before in
-    omega (arith, start .pre .1, ap (λ (l : Line). length (lineText l)) (line-parts (start .args .t3) (start .args .plans .now) (start .args .from)))
+    let start = c .before .before .before .before .before .before .before in
+    omega (arith, start .pre .1, ap (λ (l : Line). length (lineText l)) (line-parts (start .args .entry) (start .args .plans .now) (start .args .from)))
 
 same-length : tie.Need-same-length
 same-length c = search needs
 
 returns : tie.Need-returns
 returns c =
-    let start = c .before .before .before .before .before .before .before .before in
-    rw (← line-parts (start .args .t3) (start .args .plans .now) (start .args .from)) (c .before .before .put-line .ensures)
+    let start = c .before .before .before .before .before .before .before .before .before .before in
+    rw (← line-parts (start .args .entry) (start .args .plans .now) (start .args .from)) (c .before .before .put-line .ensures)
 
 pub put-entry-spec : {M : Type 1} → statement M
 put-entry-spec =
     tie.close
     (tie.spec
-    array-read-moves-from
     cast-moves-from
     add-moves-from
-    array-read-end
     cast-end
     add-end
     sub-put-line

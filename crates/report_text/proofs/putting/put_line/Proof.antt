@@ -1,9 +1,9 @@
--- `report_text::putting::put_line` meets its contract: the four printed lines, one behind the other.
+-- `report_text::putting::put_line` meets its contract.
 use native.Mathlib.Omega.{arith}
 use borrow.Author.Needs.{needs}
 use Rattle.text_output.specs.Laws.Puts.{puts-append, puts-length}
 use Rattle.report_text.specs.Report.{lineText}
-use Rattle.report_text.specs.Rows.{rowLine}
+use Rattle.report_text.specs.Entries.{lineOf}
 use Rattle.report_text.specs.Laws.Sizes.{four-length}
 use Rattle.report_text.proofs.putting.put_line.Statement.{statement}
 use Rattle.report_text.proofs.putting.put_line.Tie as tie
@@ -11,25 +11,16 @@ use Rattle.report_text.proofs.putting.put_line.Tie as tie
 slice-aggregate-put-number-line : tie.Need-slice-aggregate-put-number-line
 slice-aggregate-put-number-line c = search needs
 
-array-read-put-number-line : tie.Need-array-read-put-number-line
-array-read-put-number-line c = search needs
-
 put-number-line-requires : tie.Need-put-number-line-requires
 put-number-line-requires c κs =
-    let start = c .before .before .before .before .before in
-    let long = four-length (rowLine (start .args .t3) (start .args .outages .now) (start .args .moves .now)) in
+    let start = c .before .before .before .before .before .before in
+    let long = four-length (lineOf (start .args .entry) (start .args .outages .now) (start .args .moves .now)) in
     omega (arith, start .pre, long)
-
-array-read-put-answer-line : tie.Need-array-read-put-answer-line
-array-read-put-answer-line c = search needs
-
-array-read-put-answer-line-2 : tie.Need-array-read-put-answer-line-2
-array-read-put-answer-line-2 c = search needs
 
 put-answer-line-requires : tie.Need-put-answer-line-requires
 put-answer-line-requires c κs =
-    let start = c .before .before .before .before .before .before .before .before .before in
-    let long = four-length (rowLine (start .args .t3) (start .args .outages .now) (start .args .moves .now)) in
+    let start = c .before .before .before .before .before .before .before .before .before .before in
+    let long = four-length (lineOf (start .args .entry) (start .args .outages .now) (start .args .moves .now)) in
     let price = c .before .before .before .put-number-line .ensures in
     omega (arith, start .pre, long, price .end, puts-length price)
 
@@ -38,8 +29,8 @@ slice-aggregate-put-plan-line c = search needs
 
 put-plan-line-requires : tie.Need-put-plan-line-requires
 put-plan-line-requires c κs =
-    let start = c .before .before .before .before .before .before .before .before .before .before .before .before .before .before in
-    let long = four-length (rowLine (start .args .t3) (start .args .outages .now) (start .args .moves .now)) in
+    let start = c .before .before .before .before .before .before .before .before .before .before .before .before .before .before .before in
+    let long = four-length (lineOf (start .args .entry) (start .args .outages .now) (start .args .moves .now)) in
     let price = c .before .before .before .before .before .before .before .before .put-number-line .ensures in
     let answer = c .before .before .before .before .put-answer-line .ensures in
     omega (arith, start .pre, long, price .end, puts-length price, answer .end, puts-length answer)
@@ -49,8 +40,8 @@ slice-aggregate-put-plan-line-2 c = search needs
 
 put-plan-line-requires-2 : tie.Need-put-plan-line-requires-2
 put-plan-line-requires-2 c κs =
-    let start = c .before .before .before .before .before .before .before .before .before .before .before .before .before .before .before .before .before .before .before in
-    let long = four-length (rowLine (start .args .t3) (start .args .outages .now) (start .args .moves .now)) in
+    let start = c .before .before .before .before .before .before .before .before .before .before .before .before .before .before .before .before .before .before .before .before in
+    let long = four-length (lineOf (start .args .entry) (start .args .outages .now) (start .args .moves .now)) in
     let price = c .before .before .before .before .before .before .before .before .before .before .before .before .before .put-number-line .ensures in
     let answer = c .before .before .before .before .before .before .before .before .before .put-answer-line .ensures in
     let outages = c .before .before .before .before .put-plan-line .ensures in
@@ -73,10 +64,7 @@ put-line-spec =
     tie.close
     (tie.spec
     slice-aggregate-put-number-line
-    array-read-put-number-line
     put-number-line-requires
-    array-read-put-answer-line
-    array-read-put-answer-line-2
     put-answer-line-requires
     slice-aggregate-put-plan-line
     put-plan-line-requires

@@ -1,2 +1,0 @@
--- What is proved about chains.
-pub mod Chains

@@ -1,3 +1,0 @@
--- What is proved about the front call.
-pub mod Unique
-pub mod Promise

@@ -1,4 +1,0 @@
--- What is proved about listing a front.
-pub mod Slices
-pub mod Working
-pub mod Stages

@@ -1,6 +1,0 @@
--- What is proved about the meanings.
-pub mod Unique
-pub mod Capacity
-pub mod Nearest
-pub mod Working
-pub mod Promise
