@@ -1,6 +1,7 @@
 // Not for outsiders. Slices of rows of words: words read and stored, rows cleared. Word c of every row is column c.
 mod buckets;
 mod links;
+mod numbers;
 mod words;
 
 pub use buckets::BUCKET_WORDS;
@@ -11,6 +12,7 @@ pub use links::LINK_WORDS;
 pub use links::clear_links;
 pub use links::get_link;
 pub use links::put_link;
+pub use numbers::clear_numbers;
 pub use words::HEAP;
 pub use words::HOP;
 pub use words::KEY;
