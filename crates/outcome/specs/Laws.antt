@@ -1,2 +1,3 @@
--- What is proved about refusals.
+-- What is proved about answers and refusals.
+pub mod Answers
 pub mod Refusal

@@ -4,18 +4,9 @@ use mathlib.Core.List.{List, [], _∷_, List·Memᴰ}
 use Prim.Native.Nat.{ℕ, _≤_, _<_}
 use Rattle.strips.specs.Task.{leaderActions}
 use Rattle.strips.specs.Plan.{Runs, cost, Least}
-use Rattle.outcome.specs.Answer.{Value, minutes, none}
+use Rattle.outcome.specs.Answer.{Value, UpTo, Below}
 use Rattle.strips.specs.declared.Task.{Task}
 use Rattle.search.specs.Response.{Response}
-
--- the order of answers: none is above every number, and equal to itself
-pub data UpTo : Value → Value → Type 0 where
-  number-up-to : {a b : ℕ} → a ≤ b → UpTo (minutes a) (minutes b)
-  up-to-none : {x : Value} → UpTo x none
-
-pub data Below : Value → Value → Type 0 where
-  number-below : {a b : ℕ} → a < b → Below (minutes a) (minutes b)
-  below-none : {a : ℕ} → Below (minutes a) none
 
 -- the pair of a price p and an answer f covers that of p′ and f′
 abbrev pub Covers : ℕ → Value → ℕ → Value → Type 0

@@ -1,3 +1,3 @@
 -- What is proved about the front.
-pub mod Values
 pub mod Unique
+pub mod Layout

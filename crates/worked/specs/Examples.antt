@@ -10,7 +10,7 @@ use Rattle.strips.specs.Task.{idle, leaderActions}
 use Rattle.strips.specs.Plan.{cost}
 use Rattle.strips.specs.Deciders.{valid?}
 use Rattle.strips.specs.Limits.{maxLeader, maxFollower}
-use Rattle.outcome.specs.Answer.{Value, minutes, none}
+use Rattle.outcome.specs.Answer.{Value, minutes, none, upTo}
 use Rattle.strips.specs.declared.Action.{Action}
 use Rattle.strips.specs.declared.Task.{Task}
 use Rattle.replay.specs.Replay.{replayed}
@@ -19,7 +19,7 @@ use Rattle.task_format.specs.Parse.{parse, accepted}
 use Rattle.task_format.specs.Render.{render}
 use Rattle.search.specs.Reachable.{Fits}
 use Rattle.pareto.specs.Front.{Covers, Inflicts, Line, Front}
-use Rattle.worked.specs.Check.{Node, Attack, both, either, sameList, upTo, runsTo, answered, frontIs, reachIs}
+use Rattle.worked.specs.Check.{Node, Attack, both, either, sameList, runsTo, answered, frontIs, reachIs}
 
 -- an example
 pub data Example : Type 0 where

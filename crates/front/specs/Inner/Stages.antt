@@ -1,7 +1,7 @@
 -- The stages of the search for the front's lines, with n places for states.
 use mathlib.Core.Path.{_≡_}
-use mathlib.Core.List.{List}
-use Prim.Native.Nat.{ℕ, _+_, _≤_, _<_}
+use mathlib.Core.List.{List, [], _∷_}
+use Prim.Native.Nat.{ℕ, _+_, _≤_}
 use lib.ListN.{length, replicate}
 use Rattle.strips.specs.declared.Task.{Task}
 use Rattle.search.specs.Limits.{maxPlaces}
@@ -9,12 +9,10 @@ use Rattle.search.specs.Reachable.{Fits}
 use Rattle.rows.specs.Cleared.{everywhere, zeros}
 use Rattle.questions.specs.Lent.{Lent}
 use Rattle.questions.specs.Memory.{Room}
-use Rattle.questions.specs.Call.{Returned, done, refused}
-use Rattle.pareto.specs.Front.{Line, Front}
-use Rattle.pareto.specs.Layout.{plansFor}
-use Rattle.front_lines.specs.Lines.{linesIn, Chosen}
+use Rattle.questions.specs.Call.{Returned, Asks, done, refused}
+use Rattle.front_lines.specs.Lines.{Chosen}
 use Rattle.front.specs.FrontCall.{frontCall}
-use Rattle.front.specs.Asked.{InRows, LinesLeft}
+use Rattle.front.specs.Asked.{InRows, RefusedLeft, DoneLeft}
 
 -- each working slice has n places at least
 pub record Spacious (n : ℕ) (S : List ℕ) (X L R : List (List ℕ)) : Type 0 where
@@ -30,14 +28,18 @@ pub data LinesFound (t : Task) (n : ℕ) (R : List (List ℕ)) (r : ℕ) : Type 
   found : Fits t n → r ≤ n → Chosen t R r → LinesFound t n R r
   unfit : r ≡ n + 1 → (Fits t n → ⊥) → LinesFound t n R r
 
--- questions 13 to 15
-pub data LinesAsked (t : Task) (n entries numbers : ℕ) (R : List (List ℕ)) (r : Returned ℕ) : Type 0 where
-  too-many-states : r ≡ refused (frontCall t) 13 → (Fits t n → ⊥) → LinesAsked t n entries numbers R r
-  too-many-entries : {lines : List Line} → r ≡ refused (frontCall t) 14 → Fits t n → Front t lines → entries < length lines → LinesAsked t n entries numbers R r
-  plans-too-long : {lines : List Line} → r ≡ refused (frontCall t) 15 → Fits t n → Front t lines → length lines ≤ entries → numbers < length (plansFor lines)
-      → LinesAsked t n entries numbers R r
-  lines-fit : {lines : List Line} → r ≡ done (frontCall t) lines → Fits t n → Front t lines → length lines ≤ entries → length (plansFor lines) ≤ numbers → InRows R lines
-      → LinesAsked t n entries numbers R r
+-- the questions about the lines
+abbrev pub lines-asks : List ℕ
+lines-asks = 13 ∷ 14 ∷ 15 ∷ []
+
+-- n places for states, and room for so many entries and plan numbers
+abbrev pub placesRoom : ℕ → ℕ → ℕ → Room
+placesRoom n entries numbers = record { sizes = n ∷ []; entries = entries; plans = numbers; text = 0 }
+
+-- what is returned, and what the rows hold then
+abbrev pub LinesAsked : Task → (n entries numbers : ℕ) → List (List ℕ) → Returned ℕ → Type 0
+LinesAsked t n entries numbers R r =
+    Asks (frontCall t) lines-asks (placesRoom n entries numbers) (λ q. r ≡ refused (frontCall t) q) (λ lines. (r ≡ done (frontCall t) lines) × InRows R lines)
 
 -- all is cleared, but for the rows of lines
 pub record UsedCleared (r : Returned ℕ) (S : Lent (List ℕ)) (X L R : Lent (List (List ℕ))) : Type 0 where
@@ -46,3 +48,7 @@ pub record UsedCleared (r : Returned ℕ) (S : Lent (List ℕ)) (X L R : Lent (L
   pub links : L .after ≡ everywhere (replicate 64 0) (L .before)
   pub no-lines : r .values ≡ 0 → R .after ≡ everywhere (replicate 8 0) (R .before)
   pub lines : 1 ≤ r .values → R .after ≡ R .before
+
+-- the same questions, with all working slices
+abbrev pub LinesListed : Task → (n entries numbers : ℕ) → Lent (List ℕ) → (X L R : Lent (List (List ℕ))) → Returned ℕ → Type 0
+LinesListed t n entries numbers S X L R r = Asks (frontCall t) lines-asks (placesRoom n entries numbers) (RefusedLeft t S X L R r) (DoneLeft t S X L R r)

@@ -7,13 +7,13 @@ use native.Mathlib.Omega.{arith}
 use Rattle.strips.specs.Task.{leaderActions}
 use Rattle.strips.specs.Plan.{done, cost}
 use Rattle.outcome.specs.Answer.{Value}
+use Rattle.outcome.specs.Laws.Answers.{up-to-trans, up-to-antisym, below-not}
 use Rattle.strips.specs.Laws.Order.{least-unique}
 use Rattle.strips.specs.declared.Task.{Task}
 use Rattle.replay.specs.Laws.Steps.{runs-end}
 use Rattle.search.specs.Response.{Response}
 use Rattle.search.specs.Laws.Response.{response-unique}
 use Rattle.pareto.specs.Front.{Covers, Attacks, Line, Stands, Lower, Rising, nil, cons, Front}
-use Rattle.pareto.specs.Laws.Values.{up-to-trans, up-to-antisym, below-not}
 
 line : ℕ → Value → List ℕ → List ℕ → Line
 line p f a b = record { price = p; answer = f; leader-plan = a; follower-plan = b }

@@ -15,7 +15,8 @@ use Rattle.strips.specs.Task.{leaderActions, followerActions}
 use Rattle.strips.specs.Plan.{known?, cost}
 use Rattle.strips.specs.Laws.Decision.{said-yes}
 use Rattle.strips.specs.Deciders.{valid?, places?, unused?, proper?, within?}
-use Rattle.outcome.specs.Answer.{Value}
+use Rattle.outcome.specs.Answer.{Value, upTo}
+use Rattle.outcome.specs.Laws.Answers.{up-to-is}
 use Rattle.pareto.specs.Front.{Line}
 use Rattle.replay.specs.Replay.{replayed, passing, endState}
 use Rattle.task_format.specs.Text.{newline, split, begins}
@@ -25,8 +26,8 @@ use Rattle.task_format.specs.Parse.{parse, follow, judged, fault, zeros}
 use Rattle.task_format.specs.Deciders.{same?, le?, true?, either?, empty?, all?, between?, number?, risesFrom?, rises?, inForm?, inRange?, ascending?}
 use Rattle.task_format.specs.Render.{digitsOf, factsOf, listed, valueText, lineText, linesText, render}
 use Rattle.round_trip.specs.Theorems.{written-read, written-cut-read}
-use Rattle.worked.specs.Check.{both, either, every, some, everyUpTo, when, sameList, sameValue, upTo, below, holds, notLater, atMost, runsTo, serves, closed, tabled, responds, answered, rises, stands, covers, attackNodes, frontIs, among, not, distinct, reachIs}
-use Rattle.worked.specs.Laws.Tests.{both-first, both-second, either-of, every-each, same-list, up-to-is, runs-to}
+use Rattle.worked.specs.Check.{both, either, every, some, everyUpTo, when, sameList, sameValue, below, holds, notLater, atMost, runsTo, serves, closed, tabled, responds, answered, rises, stands, covers, attackNodes, frontIs, among, not, distinct, reachIs}
+use Rattle.worked.specs.Laws.Tests.{both-first, both-second, either-of, every-each, same-list, runs-to}
 use Rattle.worked.specs.Laws.Sound.{attack-response, front-is, reach-is}
 use Rattle.worked.specs.Examples.{Example, front, reach, replay, refusal, file, covered, Claims, test, act, hall, worked, node, attack, line, attacks, second, lines, text, firstCovers, FirstCovers, examples}
 

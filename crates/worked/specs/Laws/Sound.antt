@@ -11,7 +11,8 @@ use borrow.Author.Tests.{eqb-true, leb-true, ltb-true}
 use Rattle.strips.specs.State.{after}
 use Rattle.strips.specs.Task.{leaderActions, followerActions}
 use Rattle.strips.specs.Plan.{action, cost, AtMost, Runs, Least}
-use Rattle.outcome.specs.Answer.{Value, minutes, none}
+use Rattle.outcome.specs.Answer.{Value, minutes, none, upTo}
+use Rattle.outcome.specs.Laws.Answers.{up-to-is}
 use Rattle.strips.specs.Laws.ClosedTable.{Served, Closed, least-plan}
 use Rattle.strips.specs.Laws.Order.{at-most-trans, at-most-cost}
 use Rattle.strips.specs.declared.Action.{Action}
@@ -21,8 +22,8 @@ use Rattle.search.specs.Reachable.{Reach, Fits}
 use Rattle.search.specs.Response.{Solves, Response, found, nothing}
 use Rattle.search.specs.Laws.Response.{response-unique}
 use Rattle.pareto.specs.Front.{Attacks, Inflicts, Line, Stands, Rising, nil, cons, Covered, Front}
-use Rattle.worked.specs.Check.{Node, Attack, both, every, some, when, sameList, sameValue, upTo, below, holds, atMost, runsTo, serves, closed, tabled, responds, answered, rises, stands, covers, attackNodes, frontIs, everyUpTo, among, reachIs}
-use Rattle.worked.specs.Laws.Tests.{both-first, both-second, when-then, every-each, some-one, up-to-each, same-list, same-value, value-same, up-to-is, below-is, holds-is, is-holds, at-most-is, runs-to, among-is, distinct-is}
+use Rattle.worked.specs.Check.{Node, Attack, both, every, some, when, sameList, sameValue, below, holds, atMost, runsTo, serves, closed, tabled, responds, answered, rises, stands, covers, attackNodes, frontIs, everyUpTo, among, reachIs}
+use Rattle.worked.specs.Laws.Tests.{both-first, both-second, when-then, every-each, some-one, up-to-each, same-list, same-value, value-same, below-is, holds-is, is-holds, at-most-is, runs-to, among-is, distinct-is}
 
 abbrev Listed : List Node → Node → Type 0
 Listed nodes n = List·Memᴰ n nodes

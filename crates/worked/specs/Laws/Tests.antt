@@ -13,10 +13,9 @@ use borrow.Author.Tests.{eq-eqb, eqb-true, leb-true, ltb-true}
 use Rattle.strips.specs.State.{Holds, after}
 use Rattle.strips.specs.Plan.{action, cost, Before, here, there, shorter, earlier, AtMost, cheaper, smaller, same, Runs, done, next}
 use Rattle.strips.specs.Laws.Pigeonhole.{Distinct, nil, cons}
-use Rattle.outcome.specs.Answer.{Value, minutes, none}
+use Rattle.outcome.specs.Answer.{Value, minutes, none, Below, number-below, below-none}
 use Rattle.strips.specs.declared.Action.{Action}
-use Rattle.pareto.specs.Front.{UpTo, number-up-to, up-to-none, Below, number-below, below-none}
-use Rattle.worked.specs.Check.{both, either, every, some, everyUpTo, when, sameList, sameValue, upTo, below, holds, notLater, atMost, runsTo, among, not, distinct}
+use Rattle.worked.specs.Check.{both, either, every, some, everyUpTo, when, sameList, sameValue, below, holds, notLater, atMost, runsTo, among, not, distinct}
 
 never : {X : Type 0} → false ≡ true → X
 never e = absurd (let z : _≡_ {A = ℕ} 0 1 = cc in omega arith)
@@ -99,13 +98,6 @@ value-same x y e = rw (← e) (of x)
     of : (z : Value) → sameValue z z ≡ true
     of (minutes a) = eq-eqb a a refl
     of none = refl
-
-pub up-to-is : (x y : Value) → upTo x y ≡ true → UpTo x y
-unfolding upTo
-up-to-is (minutes a) (minutes b) e = number-up-to (leb-true a b e)
-up-to-is (minutes a) none e = up-to-none
-up-to-is none (minutes b) e = never e
-up-to-is none none e = up-to-none
 
 pub below-is : (x y : Value) → below x y ≡ true → Below x y
 unfolding below

@@ -1,0 +1,2 @@
+-- What is proved about the front call.
+pub mod Stages

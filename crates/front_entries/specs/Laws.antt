@@ -1,0 +1,2 @@
+-- What is proved about storing entries.
+pub mod Entries

@@ -1,0 +1,3 @@
+-- How entries are stored; `Laws` has what is proved about it.
+pub mod Entries
+pub mod Laws
