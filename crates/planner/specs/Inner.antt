@@ -1,2 +1,4 @@
--- How the columns of the rows are read: what only this crate's proofs need.
+-- How the columns of the rows are read and filled: what only this crate's proofs need.
 pub mod Columns
+pub mod Weights
+pub mod Searches

@@ -1,5 +1,6 @@
--- What the rows say after the searches of a task; `Inner` has how they are read, `Laws` what is proved.
+-- What the rows say after the searches of a task; `Inner` has how they are read and filled, `Laws` what is proved.
 pub mod Inner
 pub mod Reading
 pub mod Solved
+pub mod Searches
 pub mod Laws

@@ -1,5 +1,7 @@
 // Not for outsiders. The plans of a task: the searches, and what the rows say after them.
 mod reading;
+mod searches;
+mod weights;
 
 pub use reading::answer;
 pub use reading::leader_steps;
@@ -11,3 +13,4 @@ pub use reading::response_steps;
 pub use reading::settled_row;
 pub use reading::write_leader_plan;
 pub use reading::write_response;
+pub use searches::solve;

@@ -10,7 +10,7 @@ use Rattle.planner.proofs.reading.write_leader_plan.Tie as tie
 write-plan-requires : tie.Need-write-plan-requires
 write-plan-requires c κs =
     let e = encoded (c .before .before .pre .0) in
-    (e .met, (e .n, e .links, e .inside), omega (arith, c .before .before .pre .1, leader-length (c .before .before .args .rows .now) (c .before .before .args .i)))
+    (e .met, record { rows = e .rows; room = e .room; start = e .start; inside = e .links }, omega (arith, c .before .before .pre .1, leader-length (c .before .before .args .rows .now) (c .before .before .args .i)))
 
 same-length : tie.Need-same-length
 same-length c = search needs

@@ -5,17 +5,16 @@ use Prim.Native.Nat.{ℕ, _+_, _-_, _≤_, _<_}
 use native.Mathlib.Omega.{arith}
 use lib.ListN.{length, getD, drop, length-set}
 use borrow.Author.Needs.{needs}
-use Rattle.rows.specs.Columns.{col, linkColumn, valueColumn, hopColumn}
-use Rattle.rows.specs.Laws.Columns.{col-length}
+use Rattle.rows.specs.Columns.{col, valueColumn, hopColumn}
 use Rattle.responses.specs.Responses.{stepsFrom}
-use Rattle.planner.specs.Inner.Columns.{stepsIn, Hops}
+use Rattle.planner.specs.Inner.Columns.{stepsIn, Onward}
 use Rattle.planner.specs.Laws.Reading.{encoded, readable-row, follower-is, follower-length, Head, head-start, head-more, head-stop}
 use Rattle.planner.proofs.reading.write_response.Statement.{statement}
 use Rattle.planner.proofs.reading.write_response.Tie as tie
 
 abbrev Inv-loop : tie.InvT-loop
 Inv-loop rows i plan₀ steps x₀ k₀ plan x k =
-    (k ≤ steps) × ((n : ℕ) × Hops (col valueColumn rows) (col hopColumn rows) n × (x < n) × (n ≤ length rows)) × (stepsIn (getD (col valueColumn rows) x 0) + k ≡ steps)
+    (k ≤ steps) × ((n : ℕ) × Onward (col valueColumn rows) (col hopColumn rows) n × (x < n) × (n ≤ length rows)) × (stepsIn (getD (col valueColumn rows) x 0) + k ≡ steps)
     × (length plan ≡ length plan₀) × Head (col hopColumn rows) i steps k x plan₀ plan
 
 abbrev μ-loop : tie.MeasureT-loop
@@ -30,7 +29,7 @@ loop-holds c =
     let R = start .args .rows .now in
     let e = encoded (start .pre .0) in (
       omega arith,
-      (e .n, e .hops, e .inside, omega (arith, e .links .size, col-length linkColumn R)),
+      (e .rows, e .hops, e .start, e .room),
       omega (arith, c .response-steps .ensures .0, follower-length R (start .args .i)),
       refl,
       head-start _ _ _ _,
@@ -58,11 +57,10 @@ loop-again c =
     let x = at .loop .x in
     let w = at .loop .inv .1 in
     let some : 1 ≤ stepsIn (getD (col valueColumn (start .args .rows .now)) x 0) = omega (arith, at .loop .inv .2) in
-    let inside = w .1 .inside x (w .2) some in
-    let falls = w .1 .falls x (w .2) some in (
+    let next = w .1 x (w .2) some in (
       omega arith,
-      (w .0, w .1, rw (c .get .ensures) inside, w .3),
-      rw (c .get .ensures) (omega (arith, falls, at .loop .inv .2)),
+      (w .0, w .1, rw (c .get .ensures) (next .0), w .3),
+      rw (c .get .ensures) (omega (arith, next .1, at .loop .inv .2)),
       simp length-set (at .loop .inv .3),
       head-more _ _ _ _ (at .loop .k) x _ _ (c .get .ensures) (omega arith) (omega (arith, at .before .response-steps .ensures .0, start .pre .1)) (at .loop .inv .4),
     )
