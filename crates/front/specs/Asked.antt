@@ -22,7 +22,7 @@ pub record LinesLeft (S : Lent (List ℕ)) (X L R : Lent (List (List ℕ))) (lin
   pub states : S .after ≡ zeros (S .before)
   pub index : X .after ≡ everywhere (replicate 4 0) (X .before)
   pub links : L .after ≡ everywhere (replicate 64 0) (L .before)
-  pub lines : InRows (R .after) lines
+  pub held : InRows (R .after) lines
   pub size : length (R .after) ≡ length (R .before)
 
 -- the room in these working slices, with so many entries and plan numbers, and no text

@@ -4,7 +4,7 @@ ghost use Rattle.questions.specs.Lent.{lent};
 ghost use Rattle.front.specs.FrontCall.{returned};
 ghost use Rattle.front.specs.Asked.{FrontAsked};
 use crate::Fronted;
-use crate::search::list_lines;
+use crate::lines::list_lines;
 use outcome::Refusal;
 use outcome::Verdict;
 use questions::places;
