@@ -1,2 +1,4 @@
 -- What is proved about the front call.
 pub mod Stages
+pub mod Asked
+pub mod Listed

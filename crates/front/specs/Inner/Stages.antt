@@ -10,6 +10,7 @@ use Rattle.rows.specs.Cleared.{everywhere, zeros}
 use Rattle.questions.specs.Lent.{Lent}
 use Rattle.questions.specs.Memory.{Room}
 use Rattle.questions.specs.Call.{Returned, Asks, done, refused}
+use Rattle.pareto.specs.Layout.{plansFor}
 use Rattle.front_lines.specs.Lines.{Chosen}
 use Rattle.front.specs.FrontCall.{frontCall}
 use Rattle.front.specs.Asked.{InRows, RefusedLeft, DoneLeft}
@@ -39,7 +40,7 @@ placesRoom n entries numbers = record { sizes = n ∷ []; entries = entries; pla
 -- what is returned, and what the rows hold then
 abbrev pub LinesAsked : Task → (n entries numbers : ℕ) → List (List ℕ) → Returned ℕ → Type 0
 LinesAsked t n entries numbers R r =
-    Asks (frontCall t) lines-asks (placesRoom n entries numbers) (λ q. r ≡ refused (frontCall t) q) (λ lines. (r ≡ done (frontCall t) lines) × InRows R lines)
+    Asks (frontCall t) lines-asks (placesRoom n entries numbers) (λ q. r ≡ refused (frontCall t) q) (λ lines. (r ≡ done (frontCall t) lines) × InRows R lines × (length lines ≤ entries) × (length (plansFor lines) ≤ numbers))
 
 -- all is cleared, but for the rows of lines
 pub record UsedCleared (r : Returned ℕ) (S : Lent (List ℕ)) (X L R : Lent (List (List ℕ))) : Type 0 where
@@ -51,4 +52,4 @@ pub record UsedCleared (r : Returned ℕ) (S : Lent (List ℕ)) (X L R : Lent (L
 
 -- the same questions, with all working slices
 abbrev pub LinesListed : Task → (n entries numbers : ℕ) → Lent (List ℕ) → (X L R : Lent (List (List ℕ))) → Returned ℕ → Type 0
-LinesListed t n entries numbers S X L R r = Asks (frontCall t) lines-asks (placesRoom n entries numbers) (RefusedLeft t S X L R r) (DoneLeft t S X L R r)
+LinesListed t n entries numbers S X L R r = Asks (frontCall t) lines-asks (placesRoom n entries numbers) (RefusedLeft t S X L R r) (DoneLeft t S X L R entries numbers r)

@@ -30,6 +30,19 @@ asked-map f g (no-to a r) = no-to a (f .0 r)
 asked-map f g (yes-to y a) = yes-to y (asked-map (f .1) g a)
 asked-map f g (answered d) = answered (g d)
 
+pub asked-all : {Question : (Type 0 → Type 0) → ℕ → Type 0} {Refused Refused′ : ℕ → Type 0} {Done Done′ : Type 0} {qs : List ℕ} → ((q : ℕ) → Refused q → Refused′ q) → (Done → Done′)
+    → Asked Question Refused Done qs → Asked Question Refused′ Done′ qs
+asked-all f g (no-to {q} a r) = no-to a (f q r)
+asked-all f g (yes-to y a) = yes-to y (asked-all f g a)
+asked-all f g (answered d) = answered (g d)
+
+-- what holds after a refusal and after success holds in any case
+pub asked-either : {Question : (Type 0 → Type 0) → ℕ → Type 0} {Refused : ℕ → Type 0} {Done C : Type 0} {qs : List ℕ} → ((q : ℕ) → Refused q → C) → (Done → C)
+    → Asked Question Refused Done qs → C
+asked-either f g (no-to {q} a r) = f q r
+asked-either f g (yes-to y a) = asked-either f g a
+asked-either f g (answered d) = g d
+
 -- a stage that asks the first questions, and then one that asks the others
 pub asked-then : {Question : (Type 0 → Type 0) → ℕ → Type 0} {Refused : ℕ → Type 0} {Done : Type 0} {ps qs : List ℕ} → Asked Question Refused (Asked Question Refused Done qs) ps → Asked Question Refused Done (ps ++ qs)
 asked-then (no-to a r) = no-to a r

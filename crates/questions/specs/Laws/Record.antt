@@ -12,9 +12,9 @@ use Rattle.strips.specs.Laws.Decision.{asked-yes, asked-no}
 use Rattle.strips.specs.declared.Task.{Task}
 use Rattle.questions.specs.Deciders.{chosen?}
 use Rattle.questions.specs.Asked.{Yes, No, Asked, firstNo}
-use Rattle.questions.specs.Memory.{Room}
+use Rattle.questions.specs.Memory.{Room, isOneOf, before-use}
 use Rattle.questions.specs.Record.{Record, record-asks, record?, recordFault}
-use Rattle.questions.specs.Call.{Call, Question, Replay}
+use Rattle.questions.specs.Call.{Call, Question, Replay, place}
 use Rattle.questions.specs.Laws.Asked.{Each, noneOf, not-one, all, each-by, first-asked}
 
 -- the numbers that ask about lent memory, and about plans
@@ -73,3 +73,18 @@ fault-valid t e = of (valid? t)
     of : Dec (Valid t) → Valid t
     of (yes v) = v
     of (no n) = absurd (omega (arith, record-invalid t n))
+
+-- the number of a record's fault is that of a question asked before the working slices are used, and it has no place
+module _ (t : Task) (q : ℕ) (e : recordFault t ≡ q) (some : 1 ≤ q) where
+  fault-nine : q ≡ 9
+  fault-nine = of (valid? t)
+    where
+      of : Dec (Valid t) → q ≡ 9
+      of (yes v) = absurd (omega (arith, record-valid t v, e, some))
+      of (no n) = omega (arith, record-invalid t n, e)
+
+  pub fault-before-use : isOneOf q before-use ≡ true
+  fault-before-use = rw fault-nine refl
+
+  pub fault-place : {X A : Type 0} (c : Call X A) → place c q ≡ 0
+  fault-place c = rw fault-nine refl

@@ -1,106 +1,85 @@
-use mathlib.Core.Path.{_≡_, refl, sym, ap, _∙_}
-use mathlib.Core.Logic.{_⊎_, inl, inr, ⊎-elim}
-use mathlib.Core.Bool.{Bool, true, false}
-use mathlib.Core.List.{List, [], _∷_, _++_}
-use Prim.Native.Nat.{ℕ, _+_, _-_, _*_, _/_, _%_, _≤_, _<_}
+-- `front::lines::search_lines` meets its contract.
+use mathlib.Core.Path.{refl}
 use native.Mathlib.Omega.{arith}
-use lib.ListN.{length, getD, set, length-set}
 use borrow.Author.Needs.{needs}
-use borrow.Author.Needs.{needs}
+use Rattle.front.specs.Laws.Stages.{states-refused, lines-found, entries-refused, plans-refused, lines-done}
 use Rattle.front.proofs.lines.search_lines.Statement.{statement}
 use Rattle.front.proofs.lines.search_lines.Tie as tie
-use Rattle.front.proofs.lines.search_lines.Reads as reads
-use Rattle.front.proofs.lines.search_lines.Lts as lts
-use Rattle.front.proofs.lines.find_lines.Reads as find-lines-reads
-use Rattle.front_lines.proofs.total_steps.Reads as total-steps-reads
 
--- src/lines.rt:60:9
 find-lines-requires : tie.Need-find-lines-requires
 find-lines-requires c κs = search needs
 
--- src/lines.rt:62:9
 same-length : tie.Need-same-length
 same-length c = search needs
 
--- src/lines.rt:62:9
 same-length-2 : tie.Need-same-length-2
 same-length-2 c = search needs
 
--- src/lines.rt:62:9
 same-length-3 : tie.Need-same-length-3
 same-length-3 c = search needs
 
--- src/lines.rt:62:9
 same-length-4 : tie.Need-same-length-4
 same-length-4 c = search needs
 
--- src/lines.rt:62:9
 returns : tie.Need-returns
-returns c = ?
+returns c = let start = (c .before .before .before .before .before .before .before .before .before .before .before .before) in
+    states-refused _ _ _ _ _ (start .pre .1 .small) _ ((c .before .before .before .before .before .before .find-lines) .ensures) (c .if1 .taken) refl
 
--- src/lines.rt:65:9
 same-length-5 : tie.Need-same-length-5
 same-length-5 c = search needs
 
--- src/lines.rt:65:9
 same-length-6 : tie.Need-same-length-6
 same-length-6 c = search needs
 
--- src/lines.rt:65:9
 same-length-7 : tie.Need-same-length-7
 same-length-7 c = search needs
 
--- src/lines.rt:65:9
 same-length-8 : tie.Need-same-length-8
 same-length-8 c = search needs
 
--- src/lines.rt:65:9
 returns-2 : tie.Need-returns-2
-returns-2 c = ?
+returns-2 c = let start = (c .before .before .before .before .before .before .before .before .before .before .before .before .before) in
+    let x = (lines-found ((c .before .before .before .before .before .before .before .find-lines) .ensures) (omega (arith, (c .before .if1 .left)))) in
+    entries-refused _ _ _ _ _ (start .pre .1 .small) _ (x .0) (x .1) (c .if2 .taken) refl
 
--- src/lines.rt:67:18
 total-steps-requires : tie.Need-total-steps-requires
-total-steps-requires c κs = ?
+total-steps-requires c κs = let start = (c .before .before .before .before .before .before .before .before .before .before .before .before .before .before) in
+    let x = (lines-found ((c .before .before .before .before .before .before .before .before .find-lines) .ensures) (omega (arith, (c .before .before .if1 .left)))) in
+    x .1 .listed
 
--- src/lines.rt:68:9
 same-length-9 : tie.Need-same-length-9
 same-length-9 c = search needs
 
--- src/lines.rt:68:9
 same-length-10 : tie.Need-same-length-10
 same-length-10 c = search needs
 
--- src/lines.rt:68:9
 same-length-11 : tie.Need-same-length-11
 same-length-11 c = search needs
 
--- src/lines.rt:68:9
 same-length-12 : tie.Need-same-length-12
 same-length-12 c = search needs
 
--- src/lines.rt:68:9
 returns-3 : tie.Need-returns-3
-returns-3 c = ?
+returns-3 c = let start = (c .before .before .before .before .before .before .before .before .before .before .before .before .before .before .before .before) in
+    let x = (lines-found ((c .before .before .before .before .before .before .before .before .before .before .find-lines) .ensures) (omega (arith, (c .before .before .before .before .if1 .left)))) in
+    plans-refused _ _ _ _ _ (start .pre .1 .small) _ (x .0) (x .1) (omega (arith, (c .before .before .before .if2 .left))) (omega (arith, c .if3 .taken, (c .before .total-steps) .ensures)) refl
 
--- src/lines.rt:47:1
 same-length-13 : tie.Need-same-length-13
 same-length-13 c = search needs
 
--- src/lines.rt:47:1
 same-length-14 : tie.Need-same-length-14
 same-length-14 c = search needs
 
--- src/lines.rt:47:1
 same-length-15 : tie.Need-same-length-15
 same-length-15 c = search needs
 
--- src/lines.rt:47:1
 same-length-16 : tie.Need-same-length-16
 same-length-16 c = search needs
 
--- src/lines.rt:47:1
 returns-4 : tie.Need-returns-4
-returns-4 c = ?
+returns-4 c = let start = (c .before .before .before .before .before .before .before .before .before .before .before .before .before .before .before .before) in
+    let x = (lines-found ((c .before .before .before .before .before .before .before .before .before .before .find-lines) .ensures) (omega (arith, (c .before .before .before .before .if1 .left)))) in
+    lines-done _ _ _ _ _ (start .pre .1 .small) _ (x .0) (x .1) (omega (arith, (c .before .before .before .if2 .left))) (omega (arith, c .if3 .left, (c .before .total-steps) .ensures)) refl
 
 pub search-lines-spec : {M : Type 1} → statement M
 search-lines-spec =

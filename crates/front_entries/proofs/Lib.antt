@@ -1,0 +1,4 @@
+-- What proofs of functions share.
+pub mod Rows
+pub mod Again
+pub mod Local
