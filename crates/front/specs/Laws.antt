@@ -2,3 +2,4 @@
 pub mod Stages
 pub mod Asked
 pub mod Listed
+pub mod Promise

@@ -30,3 +30,22 @@ fn list_front<'w, 'b>(
     write_plans(rows, count, plans);
     fronted
 }
+
+// The Pareto front of a task: its entries and its plans, or the first question that gets no.
+pub fn front<'w, 'b, 'e>(
+    task: Task,
+    states: &'w mut [u64],
+    index: &'w mut [[u16; BUCKET_WORDS]],
+    links: &'w mut [[u16; LINK_WORDS]],
+    rows: &'b mut [[u64; WORDS]],
+    entries: &'e mut [Entry],
+    plans: &'w mut [u8],
+) -> Fronted
+    ensures { λ r. ⌜ FrontCall task (lent states) (lent index) (lent links) (lent rows) (lent entries) (lent plans) (returned r) ⌝ }
+{
+    let room = entries.len();
+    let fronted = list_front(task, states, index, links, rows, room, plans);
+    let count = line_count(fronted);
+    take_entries(entries, rows, count);
+    fronted
+}

@@ -5,6 +5,7 @@ mod lines;
 
 pub use asked::ask_front;
 pub use asked::line_count;
+pub use call::front;
 use outcome::Refusal;
 
 // What a call that lists the front returns: the number of lines, or the first question that gets no.

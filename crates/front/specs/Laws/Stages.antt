@@ -114,7 +114,7 @@ lines-chosen f h c = found f h c
 -- ---- clearing
 
 -- a front has lines
-some-lines : {t : Task} {lines : List Line} → Front t lines → 1 ≤ length lines
+pub some-lines : {t : Task} {lines : List Line} → Front t lines → 1 ≤ length lines
 some-lines {t} {lines = []} f = absurd (not-empty t f refl)
 some-lines {lines = l ∷ ls} f = omega arith
 
