@@ -34,7 +34,7 @@ pub one-size : (n : ℕ) → n ≤ maxPlaces → shortest (n ∷ []) ≡ n
 unfolding shortest
 one-size n h = omega arith
 
-lines-length : (R : List (List ℕ)) (k : ℕ) → k ≤ length R → length (linesIn R k) ≡ k
+pub lines-length : (R : List (List ℕ)) (k : ℕ) → k ≤ length R → length (linesIn R k) ≡ k
 unfolding linesIn
 lines-length R k h = length-map (take k (notes R)) (lineAt R) ∙ length-take-le k (notes R) (omega (arith, notes-length R))
 
