@@ -49,7 +49,8 @@ fn write_line(rows: &[[u64; WORDS]], i: usize, plans: &mut [u8]) -> usize
 // Writes the plans of the first `count` lines.
 pub fn write_plans(rows: &[[u64; WORDS]], count: usize, plans: &mut [u8])
     requires { ⌜ Listed (now rows) count × (length (plansFor (linesIn (now rows) count)) ≤ length (now plans)) ⌝ }
-    ensures { λ _. ⌜ now (plans .exit) ≡ plansFor (linesIn (now (rows .entry)) count) ++ drop (length (plansFor (linesIn (now (rows .entry)) count))) (now (plans .entry)) ⌝ }
+    ensures { λ _. ⌜ now (plans .exit) ≡ plansFor (linesIn (now (rows .entry)) count)
+        ++ drop (length (plansFor (linesIn (now (rows .entry)) count))) (now (plans .entry)) ⌝ }
 {
     let mut at = 0;
     let mut k = 0;

@@ -51,10 +51,9 @@ fn place_of(rows: &[[u64; WORDS]], i: usize, last: usize) -> Place
         return Place::Behind;
     }
     if is_preferred(rows, i, last) {
-        Place::Instead
-    } else {
-        Place::Nowhere
+        return Place::Instead;
     }
+    Place::Nowhere
 }
 
 // Row i is noted where it belongs, behind `count` rows that are not dearer. How many are noted then.
@@ -83,7 +82,8 @@ fn visit(rows: &mut [[u64; WORDS]], count: usize, i: usize) -> usize
 // Notes the rows of the front's lines, in the lines' order, with rows 0, 1, .. How many lines there are.
 pub fn choose(rows: &mut [[u64; WORDS]], m: usize) -> usize
     requires { ⌜ ((t : Task) × Solved t (now rows) m) ⌝ }
-    ensures { λ r. ⌜ SameReading (now (rows .entry)) (now (rows .exit)) × (r ≤ m) × ((t : Task) → Solved t (now (rows .entry)) m → Chosen t (now (rows .exit)) r) ⌝ }
+    ensures { λ r. ⌜ SameReading (now (rows .entry)) (now (rows .exit)) × (r ≤ m)
+        × ((t : Task) → Solved t (now (rows .entry)) m → Chosen t (now (rows .exit)) r) ⌝ }
 {
     let mut count = 0;
     let mut p = 0;

@@ -1,4 +1,4 @@
--- One pass over the rows by rising price: the rows of the lines so far are noted, and the next row takes the last one's place, is noted behind it, or is passed over.
+-- One pass over the rows by rising price: the next row takes the place of the one noted last, is noted behind it, or is passed over.
 use mathlib.Core.Path.{_≡_}
 use mathlib.Core.Bool.{Bool, true, false}
 use mathlib.Core.List.{List}

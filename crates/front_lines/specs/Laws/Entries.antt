@@ -16,7 +16,8 @@ unfolding answerFor
 answer-back (Cost m) x e = rw (← e) refl
 answer-back None x e = rw (← e) refl
 
-pub entry-read : (R : List (List ℕ)) {i j : ℕ} (p : Price) (a : Answer) (l f : ℕ) → i ≡ j → p .0 ≡ priceAt R i → valueOf a ≡ answerAt R i → l ≡ length (leaderPlan R i) → f ≡ length (followerPlan R i)
+pub entry-read : (R : List (List ℕ)) {i j : ℕ} (p : Price) (a : Answer) (l f : ℕ) → i ≡ j
+    → p .0 ≡ priceAt R i → valueOf a ≡ answerAt R i → l ≡ length (leaderPlan R i) → f ≡ length (followerPlan R i)
     → record { price = p; answer = a; «leader_steps» = l; «follower_steps» = f } ≡ entryFor (lineAt R j)
 unfolding entryFor lineAt
 entry-read R {i} p a l f e hp ha hl hf = rw (← e, ← hp, ← answer-back a (answerAt R i) ha, ← hl, ← hf) refl

@@ -1,9 +1,8 @@
 -- The lines of the rows that are selected in one pass are the front.
-use mathlib.Core.Path.{_≡_, refl, sym, ap, fun-ext, _∙_}
+use mathlib.Core.Path.{_≡_, refl, sym, ap, fun-ext}
 use mathlib.Core.Logic.{_⊎_, inl, inr}
 use mathlib.Core.List.{List, [], _∷_, map, List·Memᴰ, Memᴰ·map, Memᴰ·of-map}
 use Prim.Native.Nat.{ℕ, suc, _-_, _≤_, _<_}
-use native.Mathlib.Decide.{decLt}
 use native.Mathlib.Nat.{eq-or-lt-of-le}
 use native.Mathlib.Omega.{arith}
 use lib.ListN.{length, getD, take}
@@ -12,8 +11,7 @@ use Rattle.strips.specs.Task.{leaderActions}
 use Rattle.strips.specs.Plan.{AtMost, cheaper, smaller, same, cost}
 use Rattle.strips.specs.Laws.Order.{trichotomy, at-most-trans, at-most-cost}
 use Rattle.strips.specs.declared.Task.{Task}
-use Rattle.outcome.specs.Answer.{UpTo, Below}
-use Rattle.outcome.specs.Laws.Answers.{below-up-to-trans, below-irrefl, below-not}
+use Rattle.outcome.specs.Laws.Answers.{below-not}
 use Rattle.search.specs.Response.{Response}
 use Rattle.search.specs.Rows.{Among}
 use Rattle.search.specs.Laws.Response.{response-unique}
@@ -23,8 +21,8 @@ use Rattle.planner.specs.Reading.{priceAt, answerAt, rankAt, settledAt, leaderP
 use Rattle.planner.specs.Solved.{Solved}
 use Rattle.planner.specs.Laws.Notes.{notes-length}
 use Rattle.planner.specs.Laws.Reading.{readable-row}
-use Rattle.front_lines.specs.Lines.{lineAt, noteAt, linesIn, Listed, Chosen}
-use Rattle.front_lines.specs.Inner.Selection.{Rating, ratingOf, Serves, Under, Selected}
+use Rattle.front_lines.specs.Lines.{lineAt, noteAt, linesIn, Chosen}
+use Rattle.front_lines.specs.Inner.Selection.{ratingOf, Serves, Selected}
 
 -- lines that rise from place to place
 rising-lines : (line : ℕ → Line) (xs : List ℕ) → ((a b : ℕ) → a < b → b < length xs → Lower (line (getD xs a 0)) (line (getD xs b 0))) → Rising (map line xs)
@@ -55,6 +53,10 @@ module _ {R R′ : List (List ℕ)} (e : SameReading R R′) where
   unfolding linesIn
   same-lines count = ap (λ (f : ℕ → Line). map f (take count (notes R′))) (fun-ext same-line)
 
+-- the leader plan of row i is at most that of row j
+abbrev PlanAtMost : Task → List (List ℕ) → ℕ → ℕ → Type 0
+PlanAtMost t R i j = AtMost (leaderActions t) (leaderPlan R i) (leaderPlan R j)
+
 module _ {t : Task} {R : List (List ℕ)} {m : ℕ} (solved : Solved t R m) where
   -- there are as many rows
   pub rows-inside : m ≤ length R
@@ -76,15 +78,15 @@ module _ {t : Task} {R : List (List ℕ)} {m : ℕ} (solved : Solved t R m) wher
       let j = solved .all q s a in
       record { at = j .0; within = j .1; state = j .2; least = solved .leader (j .0) (j .1) .least q (rw (j .2) a) }
 
-  -- the plan of the lower price, or of the lower rank at one price, comes first
-  at-most : (i j : ℕ) → i < m → j < m → priceAt R i ≤ priceAt R j → (priceAt R i ≡ priceAt R j → rankAt R i ≤ rankAt R j) → AtMost (leaderActions t) (leaderPlan R i) (leaderPlan R j)
+  -- the leader plan of the lower price, or of the lower rank at one price, comes first
+  at-most : (i j : ℕ) → i < m → j < m → priceAt R i ≤ priceAt R j → (priceAt R i ≡ priceAt R j → rankAt R i ≤ rankAt R j) → PlanAtMost t R i j
   at-most i j h l p r = by-price (eq-or-lt-of-le p)
     where
-      by-rank : priceAt R i ≡ priceAt R j → (rankAt R i ≡ rankAt R j) ⊎ (rankAt R i < rankAt R j) → AtMost (leaderActions t) (leaderPlan R i) (leaderPlan R j)
+      by-rank : priceAt R i ≡ priceAt R j → (rankAt R i ≡ rankAt R j) ⊎ (rankAt R i < rankAt R j) → PlanAtMost t R i j
       by-rank e (inl z) = same (ap (leaderPlan R) (solved .apart i j h l z))
       by-rank e (inr z) = smaller (omega (arith, solved .price i h, solved .price j l)) (solved .ranked i j h l z)
 
-      by-price : (priceAt R i ≡ priceAt R j) ⊎ (priceAt R i < priceAt R j) → AtMost (leaderActions t) (leaderPlan R i) (leaderPlan R j)
+      by-price : (priceAt R i ≡ priceAt R j) ⊎ (priceAt R i < priceAt R j) → PlanAtMost t R i j
       by-price (inl e) = by-rank e (eq-or-lt-of-le (r e))
       by-price (inr z) = cheaper (omega (arith, solved .price i h, solved .price j l))
 
@@ -97,11 +99,11 @@ module _ {t : Task} {R : List (List ℕ)} {m : ℕ} (solved : Solved t R m) wher
         (x .0, x .1, rw (p .2) at (x .2))
 
     -- of the rows with one answer, a noted one has the least leader plan
-    noted-least : (k j : ℕ) → k < count → j < m → answerAt R j ≡ answerAt R (getD X k 0) → AtMost (leaderActions t) (leaderPlan R (getD X k 0)) (leaderPlan R j)
+    noted-least : (k j : ℕ) → k < count → j < m → answerAt R j ≡ answerAt R (getD X k 0) → PlanAtMost t R (getD X k 0) j
     unfolding ratingOf
     noted-least k j h l e = of (served j l)
       where
-        by : (n : ℕ) → n < count → Serves (ratingOf R) (getD X n 0) j → (n < k) ⊎ (n ≡ k) ⊎ (k < n) → AtMost (leaderActions t) (leaderPlan R (getD X k 0)) (leaderPlan R j)
+        by : (n : ℕ) → n < count → Serves (ratingOf R) (getD X n 0) j → (n < k) ⊎ (n ≡ k) ⊎ (k < n) → PlanAtMost t R (getD X k 0) j
         by n u s (inl z) = absurd (below-not (sel .rising n k z h .answer) (rw e at (s .answer)))
         by n u s (inr (inl z)) =
             let w : Serves (ratingOf R) (getD X k 0) j = rw z at s in
@@ -110,7 +112,7 @@ module _ {t : Task} {R : List (List ℕ)} {m : ℕ} (solved : Solved t R m) wher
             let w = sel .rising k n z u in
             at-most (getD X k 0) j (sel .row k h) l (omega (arith, w .price, s .price)) (λ p. absurd (omega (arith, w .price, s .price)))
 
-        of : (n : ℕ) × (n < count) × Serves (ratingOf R) (getD X n 0) j → AtMost (leaderActions t) (leaderPlan R (getD X k 0)) (leaderPlan R j)
+        of : (n : ℕ) × (n < count) × Serves (ratingOf R) (getD X n 0) j → PlanAtMost t R (getD X k 0) j
         of s = by (s .0) (s .1) (s .2) (trichotomy (s .0) k)
 
     stands : (k : ℕ) → k < count → Stands t (lineAt R (getD X k 0))
@@ -125,13 +127,17 @@ module _ {t : Task} {R : List (List ℕ)} {m : ℕ} (solved : Solved t R m) wher
           attacks = attacks;
           costs = sym (solved .price i row);
           response = response;
-          least = record { has = record { end = solved .state i; attacks = attacks; plan = followerPlan R i; response = response }; least = λ q x. of q x (row-of q (x .end) (x .attacks)) };
+          least = record {
+            has = record { end = solved .state i; attacks = attacks; plan = followerPlan R i; response = response };
+            least = λ q x. of q x (row-of q (x .end) (x .attacks));
+          };
         }
       where
         of : (q : List ℕ) (x : Inflicts t (answerAt R (getD X k 0)) q) → Row q (x .end) → AtMost (leaderActions t) (leaderPlan R (getD X k 0)) q
         of q x y =
             let response : Response t (solved .state (y .at)) (answerAt R (getD X k 0)) (x .plan) = rw (y .state) (x .response) in
-            at-most-trans (leaderActions t) (noted-least k (y .at) h (y .within) (response-unique (solved .response (y .at) (y .within)) response .0)) (y .least)
+            let answer = response-unique (solved .response (y .at) (y .within)) response .0 in
+            at-most-trans (leaderActions t) (noted-least k (y .at) h (y .within) answer) (y .least)
 
     covered : (q : List ℕ) (s : ℕ) → Row q s → Covered t (map (lineAt R) (take count X)) (cost (leaderActions t) q) s
     unfolding lineAt ratingOf
@@ -172,5 +178,9 @@ module _ {t : Task} {R : List (List ℕ)} {m : ℕ} (solved : Solved t R m) wher
       let inside : count ≤ length R′ = omega (arith, sel .few, rows-inside, e .size) in
       record {
         front = rw (same-lines e count) (front-of (notes R′) count (omega (arith, notes-length R′)) sel);
-        listed = record { inside = inside; few = omega (arith, sel .few, solved .few); readable = λ k h. e .readable (noteAt R′ k) (solved .readable (noteAt R′ k) (sel .row k h)) };
+        listed = record {
+          inside = inside;
+          few = omega (arith, sel .few, solved .few);
+          readable = λ k h. e .readable (noteAt R′ k) (solved .readable (noteAt R′ k) (sel .row k h));
+        };
       }

@@ -1,5 +1,5 @@
 -- The pass over the rows that were solved: what each turn may read, what it leaves, and that its end is the front.
-use mathlib.Core.Path.{_≡_, refl, ap, _∙_}
+use mathlib.Core.Path.{_≡_, _∙_}
 use mathlib.Core.List.{List}
 use Prim.Native.Nat.{ℕ, _+_, _-_, _≤_, _<_}
 use native.Mathlib.Omega.{arith}
@@ -26,7 +26,11 @@ module _ {t : Task} {R₀ : List (List ℕ)} {m : ℕ} (solved : Solved t R₀ m
   rising = solved .rising
 
   pub pass-start : Pass R₀ m R₀ 0 0
-  pass-start = record { within = omega arith; same = same-refl R₀; selected = selected-none (ratingOf R₀) (settledAt R₀) m (solved .settled) rising (noteAt R₀) }
+  pass-start = record {
+    within = omega arith;
+    same = same-refl R₀;
+    selected = selected-none (ratingOf R₀) (settledAt R₀) m (solved .settled) rising (noteAt R₀);
+  }
 
   module _ {R : List (List ℕ)} {p count : ℕ} (pass : Pass R₀ m R p count) (more : p < m) {i : ℕ} (next : i ≡ settledAt R p) where
     -- the next row, and the one noted last, can be read

@@ -39,7 +39,8 @@ module _ (R : List (List ℕ)) where
   steps-most k zero h l = let e : k ≡ 0 = omega arith in rw e (omega arith)
   steps-most k (suc count) h l = of (eq-or-lt-of-le h) (λ u. steps-most k count u (omega arith))
     where
-      of : (k ≡ suc count) ⊎ (k < suc count) → (k ≤ count → length (plansFor (linesIn R k)) ≤ length (plansFor (linesIn R count))) → length (plansFor (linesIn R k)) ≤ length (plansFor (linesIn R (suc count)))
+      of : (k ≡ suc count) ⊎ (k < suc count) → (k ≤ count → length (plansFor (linesIn R k)) ≤ length (plansFor (linesIn R count)))
+          → length (plansFor (linesIn R k)) ≤ length (plansFor (linesIn R (suc count)))
       of (inl e) f = rw e (omega arith)
       of (inr u) f = omega (arith, f (omega arith), steps-suc count (omega arith))
 
@@ -52,8 +53,9 @@ module _ (R : List (List ℕ)) where
       pub line-fits : k < count → length (plansFor (linesIn R count)) ≤ length out → at + length (plansAt R (noteAt R k)) ≤ length out′
       line-fits h room = omega (arith, w .place, w .size, steps-more k (omega arith), steps-most (k + 1) count (omega arith) inside)
 
-      pub written-more : (part : List ℕ) (n : ℕ) → k < count → at ≤ length out′ → n ≡ length (plansAt R (noteAt R k)) → length (putMid at (length out′ - at) out′ part) ≡ length out′
-          → part ≡ plansAt R (noteAt R k) ++ drop n (midOf at (length out′ - at) out′) → Written R count out (putMid at (length out′ - at) out′ part) (at + n) (k + 1)
+      pub written-more : (part : List ℕ) (n : ℕ) → k < count → at ≤ length out′ → n ≡ length (plansAt R (noteAt R k))
+          → length (putMid at (length out′ - at) out′ part) ≡ length out′ → part ≡ plansAt R (noteAt R k) ++ drop n (midOf at (length out′ - at) out′)
+          → Written R count out (putMid at (length out′ - at) out′ part) (at + n) (k + 1)
       written-more part n h l e same wrote = record {
         passed = omega arith;
         place = omega (arith, w .place, steps-more k (omega arith));
@@ -65,4 +67,6 @@ module _ (R : List (List ℕ)) where
       pub written-end : count ≤ k → out′ ≡ plansFor (linesIn R count) ++ drop (length (plansFor (linesIn R count))) out
       written-end h =
           let e : k ≡ count = omega (arith, w .passed) in
-          w .text ∙ ap (λ (n : ℕ). plansFor (linesIn R k) ++ drop n out) (w .place) ∙ ap (λ (j : ℕ). plansFor (linesIn R j) ++ drop (length (plansFor (linesIn R j))) out) e
+          w .text
+          ∙ ap (λ (n : ℕ). plansFor (linesIn R k) ++ drop n out) (w .place)
+          ∙ ap (λ (j : ℕ). plansFor (linesIn R j) ++ drop (length (plansFor (linesIn R j))) out) e

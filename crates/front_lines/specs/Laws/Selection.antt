@@ -17,9 +17,13 @@ use Rattle.planner.specs.Reading.{notes, Noted}
 use Rattle.front_lines.specs.Lines.{noteAt}
 use Rattle.front_lines.specs.Inner.Selection.{Rating, Preferred, Better, Serves, Under, Visited, first, instead, behind, passed, Selected}
 
-noted-at : (R R′ : List (List ℕ)) (place i : ℕ) → Noted R place i R′ → place < length (notes R) → ((k : ℕ) → k < place → noteAt R′ k ≡ noteAt R k) × (noteAt R′ place ≡ i)
-noted-at R R′ place i w h =
-    (λ k u. ap (λ (l : List ℕ). getD l k 0) (w .noted) ∙ getD-set-other (notes R) place k i 0 (λ e. omega arith), ap (λ (l : List ℕ). getD l place 0) (w .noted) ∙ getD-set-same (notes R) place i 0 h)
+-- a note leaves those before it alone
+noted-at : (R R′ : List (List ℕ)) (place i : ℕ) → Noted R place i R′ → place < length (notes R)
+    → ((k : ℕ) → k < place → noteAt R′ k ≡ noteAt R k) × (noteAt R′ place ≡ i)
+noted-at R R′ place i w h = (
+  λ k u. ap (λ (l : List ℕ). getD l k 0) (w .noted) ∙ getD-set-other (notes R) place k i 0 (λ e. omega arith),
+  ap (λ (l : List ℕ). getD l place 0) (w .noted) ∙ getD-set-same (notes R) place i 0 h,
+)
 
 module _ (v : Rating) where
   serves-refl : (i : ℕ) → Serves v i i
@@ -47,7 +51,8 @@ module _ (v : Rating) where
       let h = not-up-to (v .answer i) (v .answer j) e in
       record { answer = below-up-to h; tie = λ f. absurd (below-irrefl (rw f at h)) }
 
-  pub lower-rank : (i j a b : ℕ) → upTo (v .answer i) (v .answer j) ≡ true → upTo (v .answer j) (v .answer i) ≡ true → a ≡ v .rank i → b ≡ v .rank j → Better v i j (ltb a b)
+  pub lower-rank : (i j a b : ℕ) → upTo (v .answer i) (v .answer j) ≡ true → upTo (v .answer j) (v .answer i) ≡ true
+      → a ≡ v .rank i → b ≡ v .rank j → Better v i j (ltb a b)
   lower-rank i j a b x y ea eb = of (decLt a b)
     where
       of : Dec (a < b) → Better v i j (ltb a b)
@@ -133,7 +138,8 @@ module _ (v : Rating) where
         → Visited v R count i R′ r → Selected v S (noteAt R′) m (done + 1) r
     selected-visited R R′ done count i r s h room e (first z w q) =
         let x = noted-at R R′ 0 i w (omega arith) in
-        rw q (selected-noted (noteAt R) (noteAt R′) done count 0 s h (omega arith) (λ k u. absurd (omega arith)) (x .1 ∙ e) (λ k u. absurd (omega arith)) (λ k u l. absurd (omega arith)))
+        rw q (selected-noted (noteAt R) (noteAt R′) done count 0 s h (omega arith) (λ k u. absurd (omega arith)) (x .1 ∙ e)
+        (λ k u. absurd (omega arith)) (λ k u l. absurd (omega arith)))
     selected-visited R R′ done count i r s h room e (instead some serves w q) =
         let last = count - 1 in
         let x = noted-at R R′ last i w (omega (arith, s .few)) in
@@ -146,7 +152,8 @@ module _ (v : Rating) where
         let last = count - 1 in
         let x = noted-at R R′ count i w (omega (arith, s .few)) in
         let above : Under v (noteAt R last) (S done) = rw (← e) under in
-        rw q (selected-noted (noteAt R) (noteAt R′) done count count s h (omega arith) (x .0) (x .1 ∙ e) (λ k u. all k (eq-or-lt-of-le (let z : k ≤ last = omega arith in z)) above) (λ k u l. absurd (omega arith)))
+        rw q (selected-noted (noteAt R) (noteAt R′) done count count s h (omega arith) (x .0) (x .1 ∙ e)
+        (λ k u. all k (eq-or-lt-of-le (let z : k ≤ last = omega arith in z)) above) (λ k u l. absurd (omega arith)))
       where
         all : (k : ℕ) → (k ≡ count - 1) ⊎ (k < count - 1) → Under v (noteAt R (count - 1)) (S done) → Under v (noteAt R k) (S done)
         all k (inl y) above = rw y above

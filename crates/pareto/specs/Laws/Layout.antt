@@ -14,7 +14,8 @@ pub rest-of : {A : Type 0} (a : ℕ) (xs : List A) → midOf a (length xs - a) x
 rest-of a xs = take-all (length xs - a) (drop a xs) (omega (arith, length-drop a xs))
 
 pub put-rest : {A : Type 0} (a : ℕ) (xs ys : List A) → a ≤ length xs → putMid a (length xs - a) xs ys ≡ take a xs ++ ys
-put-rest {A} a xs ys h = ap (λ (l : List A). take a xs ++ (ys ++ l)) (post-is a (length xs) xs h ∙ drop-length xs) ∙ ap (λ (l : List A). take a xs ++ l) (append-nil ys)
+put-rest {A} a xs ys h =
+    ap (λ (l : List A). take a xs ++ (ys ++ l)) (post-is a (length xs) xs h ∙ drop-length xs) ∙ ap (λ (l : List A). take a xs ++ l) (append-nil ys)
 
 -- w is written behind p, in what was left of `out`
 pub written-behind : (p w out xs ys : List ℕ) (a b : ℕ) → length p ≡ a → a ≤ length xs → xs ≡ p ++ drop a out → ys ≡ w ++ drop b (midOf a (length xs - a) xs)

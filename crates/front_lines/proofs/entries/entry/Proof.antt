@@ -32,9 +32,12 @@ cast-t9 c = search needs
 
 returns : tie.Need-returns
 returns c =
-    let noted = c .before .before .before .before in
-    entry-read (noted .before .args .rows .now) (c .before .before .before .price .result) (c .before .before .answer .result) (c .before .leader-steps .result) (c .response-steps .result) (noted .note .ensures)
-    (c .before .before .before .price .ensures) (c .before .before .answer .ensures) (c .before .leader-steps .ensures .0) (c .response-steps .ensures .0)
+    let steps = c .before in
+    let answered = steps .before in
+    let priced = answered .before in
+    let noted = priced .before in
+    entry-read (noted .before .args .rows .now) (priced .price .result) (answered .answer .result) (steps .leader-steps .result) (c .response-steps .result)
+    (noted .note .ensures) (priced .price .ensures) (answered .answer .ensures) (steps .leader-steps .ensures .0) (c .response-steps .ensures .0)
 
 pub entry-spec : {M : Type 1} → statement M
 entry-spec =

@@ -17,9 +17,11 @@ add-result c = search needs
 
 returns : tie.Need-returns
 returns c =
+    let led = c .before .leader-steps .ensures in
+    let answered = c .response-steps .ensures in
     let start = c .before .before in
     let both = length-append (leaderPlan (start .args .rows .now) (start .args .i)) (followerPlan (start .args .rows .now) (start .args .i)) in
-    (omega (arith, both, c .before .leader-steps .ensures .0, c .response-steps .ensures .0), omega (arith, c .before .leader-steps .ensures .1, c .response-steps .ensures .1))
+    (omega (arith, both, led .0, answered .0), omega (arith, led .1, answered .1))
 
 pub line-steps-spec : {M : Type 1} → statement M
 line-steps-spec =

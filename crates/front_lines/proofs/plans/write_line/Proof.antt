@@ -1,5 +1,5 @@
 -- `front_lines::plans::write_line` meets its contract: the response is written behind the leader plan.
-use mathlib.Core.Path.{_≡_, sym}
+use mathlib.Core.Path.{sym}
 use Prim.Native.Nat.{_+_, _≤_}
 use native.Mathlib.Omega.{arith}
 use lib.ListN.{length, length-append}
@@ -10,7 +10,8 @@ use Rattle.front_lines.proofs.plans.write_line.Statement.{statement}
 use Rattle.front_lines.proofs.plans.write_line.Tie as tie
 
 -- there is room for both plans
-room : (c : tie.Start) → length (leaderPlan (c .args .rows .now) (c .args .i)) + length (followerPlan (c .args .rows .now) (c .args .i)) ≤ length (c .args .plans .now)
+room : (c : tie.Start) →
+    length (leaderPlan (c .args .rows .now) (c .args .i)) + length (followerPlan (c .args .rows .now) (c .args .i)) ≤ length (c .args .plans .now)
 room c = omega (arith, length-append (leaderPlan (c .args .rows .now) (c .args .i)) (followerPlan (c .args .rows .now) (c .args .i)), c .pre .1)
 
 write-leader-plan-requires : tie.Need-write-leader-plan-requires
@@ -49,7 +50,8 @@ returns c =
     let plan = leaderPlan (start .args .rows .now) (start .args .i) in
     let response = followerPlan (start .args .rows .now) (start .args .i) in (
       omega (arith, length-append plan response, steps, responded .write-response .ensures .0),
-      written-behind plan response (start .args .plans .now) (led .write-leader-plan .last .1 .1 .0) _ (led .write-leader-plan .result) (responded .write-response .result) (sym steps) (omega (arith, room start, steps))
+      written-behind plan response (start .args .plans .now) (led .write-leader-plan .last .1 .1 .0) _ (led .write-leader-plan .result)
+          (responded .write-response .result) (sym steps) (omega (arith, room start, steps))
           (led .write-leader-plan .ensures .1) (responded .write-response .ensures .1),
     )
 

@@ -22,7 +22,8 @@ fits : (c : tie.In-loop Inv-loop μ-loop) → let start = c .before .before .bef
     c .before .loop .at + length (plansAt (start .args .rows .now) (noteAt (start .args .rows .now) (c .before .loop .k))) ≤ length (c .before .loop .plans)
 fits c =
     let start = c .before .before .before in
-    line-fits (start .args .rows .now) (start .args .count) (start .pre .0 .inside) (start .args .plans .now) (c .before .loop .inv) (c .loop-test .taken) (start .pre .1)
+    line-fits (start .args .rows .now) (start .args .count) (start .pre .0 .inside) (start .args .plans .now)
+    (c .before .loop .inv) (c .loop-test .taken) (start .pre .1)
 
 loop-holds : tie.Need-loop-holds Inv-loop μ-loop
 loop-holds c = let start = c .before in written-start (start .args .rows .now) (start .args .count) (start .pre .0 .inside) (start .args .plans .now)
@@ -44,8 +45,10 @@ write-line-requires c κs =
     let turn = c .before .before in
     let at = turn .before .loop in
     let start = turn .before .before .before in
-    let row = c .before .note .ensures in
-    (rw row (start .pre .0 .readable (at .k) (turn .loop-test .taken)), rw row (omega (arith, fits turn, ap length (rest-of (at .at) (at .plans)), length-drop (at .at) (at .plans))))
+    let row = c .before .note .ensures in (
+      rw row (start .pre .0 .readable (at .k) (turn .loop-test .taken)),
+      rw row (omega (arith, fits turn, ap length (rest-of (at .at) (at .plans)), length-drop (at .at) (at .plans))),
+    )
 
 add-at : tie.Need-add-at Inv-loop μ-loop
 add-at c =
@@ -64,14 +67,19 @@ loop-again c =
     let noted = c .before .before .before .before in
     let turn = noted .before in
     let start = turn .before .before .before in
-    let wrote = rw (noted .note .ensures) at (c .before .before .write-line .ensures) in
-    written-more (start .args .rows .now) (start .args .count) (start .pre .0 .inside) (start .args .plans .now) (turn .before .loop .inv) _ (c .before .before .write-line .result) (turn .loop-test .taken) (omega (arith, fits turn)) (wrote .0) (omega arith) (wrote .1)
+    let line = c .before .before .write-line in
+    let wrote = rw (noted .note .ensures) at (line .ensures) in
+    written-more (start .args .rows .now) (start .args .count) (start .pre .0 .inside) (start .args .plans .now) (turn .before .loop .inv)
+    _ (line .result) (turn .loop-test .taken) (omega (arith, fits turn)) (wrote .0) (omega arith) (wrote .1)
 
 same-length : tie.Need-same-length Inv-loop μ-loop
 same-length c = search needs
 
 returns : tie.Need-returns Inv-loop μ-loop
-returns c = let start = c .before .before .before in written-end (start .args .rows .now) (start .args .count) (start .pre .0 .inside) (start .args .plans .now) (c .before .loop .inv) (omega (arith, c .loop-test .left))
+returns c =
+    let start = c .before .before .before in
+    written-end (start .args .rows .now) (start .args .count) (start .pre .0 .inside) (start .args .plans .now)
+    (c .before .loop .inv) (omega (arith, c .loop-test .left))
 
 pub write-plans-spec : {M : Type 1} → statement M
 write-plans-spec =

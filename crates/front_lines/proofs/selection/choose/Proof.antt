@@ -1,5 +1,4 @@
 -- `front_lines::selection::choose` meets its contract. The loop's invariant: the lines of the rows passed are noted.
-use mathlib.Core.Path.{_≡_}
 use Prim.Native.Nat.{_-_}
 use native.Mathlib.Omega.{arith}
 use borrow.Author.Needs.{needs}
@@ -37,9 +36,10 @@ loop-less c = search needs
 
 loop-again : tie.Need-loop-again Inv-loop μ-loop
 loop-again c =
-    let test = c .before .before .before .before .before in
+    let next = c .before .before .before in
+    let test = next .before .before in
     let start = test .before .before in
-    pass-visited (start .pre .1) (test .before .loop .inv) (test .loop-test .taken) (c .before .before .before .settled-row .ensures) (c .before .visit .ensures)
+    pass-visited (start .pre .1) (test .before .loop .inv) (test .loop-test .taken) (next .settled-row .ensures) (c .before .visit .ensures)
 
 same-length : tie.Need-same-length Inv-loop μ-loop
 same-length c = search needs

@@ -1,20 +1,25 @@
 -- `front_lines::selection::place_of` meets its contract.
-use mathlib.Core.Path.{sym, _∙_}
-use Prim.Native.Nat.{_≤_, _<_}
+use mathlib.Core.Path.{_≡_, sym, _∙_}
+use mathlib.Core.Bool.{Bool}
 use borrow.Author.Needs.{needs}
 use borrow.Author.Tests.{leb-true, leb-false, not-true, not-false}
-use Rattle.planner.specs.Reading.{priceAt}
+use lib.Dec.{leb}
+use Rattle.outcome.specs.Answer.{upTo}
+use Rattle.planner.specs.Reading.{priceAt, answerAt}
 use Rattle.front_lines.specs.Inner.Selection.{ratingOf}
 use Rattle.front_lines.specs.Laws.Selection.{preferred-serves, cheaper-serves, lower-under}
 use Rattle.front_lines.proofs.selection.place_of.Statement.{statement}
 use Rattle.front_lines.proofs.selection.place_of.Tie as tie
 
--- what the first test tells
-dearer : (c : tie.Then1) → let start = c .before .before .before .before in priceAt (start .args .rows .now) (start .args .last) < priceAt (start .args .rows .now) (start .args .i)
-dearer c = leb-false _ _ (rw (c .before .before .before .price .ensures, c .before .before .price2 .ensures) at (sym (c .before .at-most .ensures) ∙ not-true _ (c .if1 .taken)))
+-- what the first test says, of the prices of the two rows
+prices : (c : tie.After-at-most) {t : Bool} → c .at-most .result ≡ t → let start = c .before .before .before in
+    leb (priceAt (start .args .rows .now) (start .args .i)) (priceAt (start .args .rows .now) (start .args .last)) ≡ t
+prices c e = rw (c .before .before .price .ensures, c .before .price2 .ensures) at (sym (c .at-most .ensures) ∙ e)
 
-no-dearer : (c : tie.Else1) → let start = c .before .before .before .before in priceAt (start .args .rows .now) (start .args .i) ≤ priceAt (start .args .rows .now) (start .args .last)
-no-dearer c = leb-true _ _ (rw (c .before .before .before .price .ensures, c .before .before .price2 .ensures) at (sym (c .before .at-most .ensures) ∙ not-false _ (c .if1 .left)))
+-- and the second, of their answers
+answers : (c : tie.After-at-most2) {t : Bool} → c .at-most2 .result ≡ t → let start = c .before .before .before .before .before .before .before in
+    upTo (answerAt (start .args .rows .now) (start .args .i)) (answerAt (start .args .rows .now) (start .args .last)) ≡ t
+answers c e = rw (c .before .before .answer .ensures, c .before .answer2 .ensures) at (sym (c .at-most2 .ensures) ∙ e)
 
 price-requires : tie.Need-price-requires
 price-requires c κs = search needs
@@ -37,18 +42,18 @@ at-most-requires-2 c κs = search needs
 returns : tie.Need-returns
 unfolding ratingOf
 returns c =
-    let compared = c .before .before .before .before in
-    let start = compared .before .before .before .before in
-    λ _. cheaper-serves (ratingOf (start .args .rows .now)) (start .args .last) (start .args .i) (dearer compared)
-    (rw (c .before .before .before .answer .ensures, c .before .before .answer2 .ensures) at (sym (c .before .at-most2 .ensures) ∙ c .if2 .taken))
+    let dearer = c .before .before .before .before in
+    let start = dearer .before .before .before .before in
+    λ _. cheaper-serves (ratingOf (start .args .rows .now)) (start .args .last) (start .args .i)
+    (leb-false _ _ (prices (dearer .before) (not-true _ (dearer .if1 .taken)))) (answers (c .before) (c .if2 .taken))
 
 returns-2 : tie.Need-returns-2
 unfolding ratingOf
 returns-2 c =
-    let compared = c .before .before .before .before in
-    let start = compared .before .before .before .before in
-    lower-under (ratingOf (start .args .rows .now)) (start .args .last) (start .args .i) (dearer compared)
-    (rw (c .before .before .before .answer .ensures, c .before .before .answer2 .ensures) at (sym (c .before .at-most2 .ensures) ∙ c .if2 .left))
+    let dearer = c .before .before .before .before in
+    let start = dearer .before .before .before .before in
+    lower-under (ratingOf (start .args .rows .now)) (start .args .last) (start .args .i)
+    (leb-false _ _ (prices (dearer .before) (not-true _ (dearer .if1 .taken)))) (answers (c .before) (c .if2 .left))
 
 is-preferred-requires : tie.Need-is-preferred-requires
 is-preferred-requires c κs = search needs
@@ -56,8 +61,10 @@ is-preferred-requires c κs = search needs
 returns-3 : tie.Need-returns-3
 unfolding ratingOf
 returns-3 c =
-    let start = c .before .before .before .before .before .before in
-    preferred-serves (ratingOf (start .args .rows .now)) (no-dearer (c .before .before)) (rw (c .if3 .taken) at (c .before .is-preferred .ensures))
+    let level = c .before .before in
+    let start = level .before .before .before .before in
+    preferred-serves (ratingOf (start .args .rows .now)) (leb-true _ _ (prices (level .before) (not-false _ (level .if1 .left))))
+    (rw (c .if3 .taken) at (c .before .is-preferred .ensures))
 
 returns-4 : tie.Need-returns-4
 unfolding ratingOf

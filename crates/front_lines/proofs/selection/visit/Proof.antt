@@ -1,6 +1,6 @@
 -- `front_lines::selection::visit` meets its contract.
 use mathlib.Core.Path.{refl}
-use Prim.Native.Nat.{_-_, _≤_}
+use Prim.Native.Nat.{_-_}
 use native.Mathlib.Omega.{arith}
 use borrow.Author.Needs.{needs}
 use Rattle.front_lines.specs.Lines.{noteAt}
