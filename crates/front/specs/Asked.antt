@@ -35,6 +35,7 @@ abbrev pub SlicesLeft : ℕ → Lent (List ℕ) → (X L R : Lent (List (List �
 SlicesLeft q S X L R = workspace S X L R .after ≡ slicesAfter q (workspace S X L R .before)
 
 pub record RefusedLeft (t : Task) (S : Lent (List ℕ)) (X L R : Lent (List (List ℕ))) (r : Returned ℕ) (q : ℕ) : Type 0 where
+  pub some : 1 ≤ q
   pub returns : r ≡ refused (frontCall t) q
   pub slices : SlicesLeft q S X L R
 

@@ -43,8 +43,6 @@ pub fn ask_front(
     let verdict = record_verdict(task);
     match verdict {
         Verdict::Refused(refusal) => Fronted::Refused(refusal),
-        Verdict::Accepted => list_lines(
-            task, n, states, index, links, rows, entries, numbers,
-        ),
+        Verdict::Accepted => list_lines(task, n, states, index, links, rows, entries, numbers),
     }
 }

@@ -6,7 +6,6 @@ use lib.Dec.{eqb}
 use Rattle.strips.specs.Decision.{ask}
 
 infixr 10 _is_then_else_
-
 -- the two answers to a question
 abbrev pub Yes : Type 0 → Type 0
 Yes P = P

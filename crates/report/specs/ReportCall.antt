@@ -1,9 +1,10 @@
 -- What a call promises that writes the front as a text too (document 01: the report of a hall).
 use mathlib.Core.List.{List, [], _∷_, _++_, map}
 use Prim.Native.Nat.{ℕ}
-use lib.ListN.{length}
+use lib.ListN.{length, replicate}
 use Rattle.strips.specs.declared.Task.{Task}
 use Rattle.outcome.specs.Refusal.{numberOf, placeOf}
+use Rattle.outcome.specs.declared.Answer.the-variants.{None}
 use Rattle.outcome.specs.declared.Entry.{Entry}
 use Rattle.questions.specs.Lent.{Lent}
 use Rattle.questions.specs.Memory.{memory, workspace}
@@ -44,6 +45,17 @@ reportCall = textCall reportText
 
 abbrev pub ReportCall : Task → Lent (List ℕ) → (index links table : Lent (List (List ℕ))) → Lent (List Entry) → (plans text : Lent (List ℕ)) → Returned Counts → Type 0
 ReportCall t states index links table entries plans text = Promise (reportCall t) (memory (workspace states index links table) entries plans text)
+
+-- an entry before it is written
+abbrev pub blank : Entry
+blank = record { price = record { 0 = 0 }; answer = None; «leader_steps» = 0; «follower_steps» = 0 }
+
+-- the same where no entries are lent: so many blank ones are the call's own
+abbrev pub ownEntries : ℕ → List Entry → Lent (List Entry)
+ownEntries room left = record { before = replicate room blank; after = left }
+
+abbrev pub PrintCall : Task → Lent (List ℕ) → (index links table : Lent (List (List ℕ))) → (room : ℕ) → (plans text : Lent (List ℕ)) → Returned Counts → Type 0
+PrintCall t states index links table room plans text r = (left : List Entry) × ReportCall t states index links table (ownEntries room left) plans text r
 
 -- what is returned, as number, place and counts
 abbrev pub returned : Reported → Returned Counts

@@ -1,10 +1,11 @@
 // The report of a task: its Pareto front in lent slices, and the text of the front's lines; with entries, and without.
 mod asked;
 mod bytes;
+mod call;
 mod text;
 
-pub use asked::list_report;
-pub use asked::written_lines;
+pub use call::print;
+pub use call::report;
 use outcome::Refusal;
 
 // The number of entries and the number of bytes written, or the first question that gets no.

@@ -43,7 +43,7 @@ module _ (t : Task) (S : List ℕ) (X L R : List (List ℕ)) (n : ℕ) (e : n �
 
   -- question 8
   pub sizes-refused : (entries numbers : ℕ) → n < 1 → Untouched entries numbers (refused (frontCall t) 8)
-  sizes-refused entries numbers h = no-to {q = 8} (capacity-none (length S ∷ length X ∷ length L ∷ length R ∷ []) e h) (record { returns = refl; slices = refl })
+  sizes-refused entries numbers h = no-to {q = 8} (capacity-none (length S ∷ length X ∷ length L ∷ length R ∷ []) e h) (record { some = omega arith; returns = refl; slices = refl })
 
   module _ (some : 1 ≤ n) where
     allowed : SizesAllowed (length S ∷ length X ∷ length L ∷ length R ∷ []) × (n ≡ shortest (length S ∷ length X ∷ length L ∷ length R ∷ []))
@@ -67,7 +67,7 @@ module _ (t : Task) (S : List ℕ) (X L R : List (List ℕ)) (n : ℕ) (e : n �
     record-refused entries numbers q f p =
         yes-to {q = 8} (allowed .0)
         (record-asked (frontCall t) (roomIn S X L R entries numbers) (λ z. absurd (omega (arith, z, f, number-some q)))
-        (λ k g h. record { returns = returns k g h; slices = rw (fault-before-use t k g h) refl }))
+        (λ k g h. record { some = h; returns = returns k g h; slices = rw (fault-before-use t k g h) refl }))
       where
         returns : (k : ℕ) → recordFault t ≡ k → 1 ≤ k → returned (Refused q) ≡ refused (frontCall t) k
         returns k g h = rw (p, f ∙ g, fault-place t k g h (frontCall t)) refl

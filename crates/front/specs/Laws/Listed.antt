@@ -28,6 +28,16 @@ module _ {t : Task} {S : Lent (List ℕ)} {X L R : Lent (List (List ℕ))} {entr
       let held = d .holds .left .held in
       rw z (held .listed, rw (held .same) (d .holds .plans-fit)))
 
+-- there is room for the entries of the lines, which can be read
+pub entries-room : {t : Task} {S plans : Lent (List ℕ)} {X L R : Lent (List (List ℕ))} {entries : ℕ} {r : Returned ℕ} → FrontListed t S X L R plans entries r
+    → (r .values ≤ entries) × Listed (R .after) (r .values)
+entries-room {R = R} = asked-either
+    (λ q x. let z = ap (λ (y : Returned ℕ). y .values) (x .refusal .returns) in rw z (omega arith, none-listed (R .after)))
+    (λ d.
+    let done = d .holds .success in
+    let z = ap (λ (y : Returned ℕ). y .values) (done .returns) in
+    rw z (done .entries-fit, done .left .held .listed))
+
 -- with the plans of these lines in the plan slice
 pub front-listed : {t : Task} {S : Lent (List ℕ)} {X L R : Lent (List (List ℕ))} {entries : ℕ} {r : Returned ℕ} (plans plans′ : List ℕ)
     → FrontAsked t S X L R entries (length plans) r

@@ -134,15 +134,15 @@ module _ (t : Task) (S : Lent (List ℕ)) (X L R : Lent (List (List ℕ))) (r : 
   links-clear : L .after ≡ everywhere (replicate 64 0) (L .before)
   links-clear = u .links ∙ everywhere-same (replicate 64 0) (L .before) L₁ size-l
 
-  refused-left : (q : ℕ) → isOneOf q before-use ≡ false → r ≡ refused (frontCall t) q → RefusedLeft t S X L R r q
-  refused-left q b e =
+  refused-left : (q : ℕ) → isOneOf q before-use ≡ false → 1 ≤ q → r ≡ refused (frontCall t) q → RefusedLeft t S X L R r q
+  refused-left q b some e =
       let rows-clear = u .no-lines (ap (λ (x : Returned ℕ). x .values) e) ∙ everywhere-same (replicate 8 0) (R .before) R₁ size-r in
-      record { returns = e; slices = rw (b, states-clear, index-clear, links-clear, rows-clear) refl }
+      record { some = some; returns = e; slices = rw (b, states-clear, index-clear, links-clear, rows-clear) refl }
 
   pub listed-left : (n entries numbers : ℕ) → LinesAsked t n entries numbers R₁ r → LinesListed t n entries numbers S X L R r
-  listed-left n entries numbers (no-to a e) = no-to {q = 13} a (refused-left 13 refl e)
-  listed-left n entries numbers (yes-to f (no-to a e)) = yes-to {q = 13} f (no-to {q = 14} a (refused-left 14 refl e))
-  listed-left n entries numbers (yes-to f (yes-to a (no-to b e))) = yes-to {q = 13} f (yes-to {q = 14} a (no-to {q = 15} b (refused-left 15 refl e)))
+  listed-left n entries numbers (no-to a e) = no-to {q = 13} a (refused-left 13 refl (omega arith) e)
+  listed-left n entries numbers (yes-to f (no-to a e)) = yes-to {q = 13} f (no-to {q = 14} a (refused-left 14 refl (omega arith) e))
+  listed-left n entries numbers (yes-to f (yes-to a (no-to b e))) = yes-to {q = 13} f (yes-to {q = 14} a (no-to {q = 15} b (refused-left 15 refl (omega arith) e)))
   listed-left n entries numbers (yes-to f (yes-to a (yes-to b (answered d)))) =
       let count = ap (λ (x : Returned ℕ). x .values) (d .holds .0) in
       let kept = u .lines (omega (arith, count, some-lines (d .found))) in

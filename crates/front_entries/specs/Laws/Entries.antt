@@ -60,6 +60,10 @@ unfolding rowsLeft
 left-start R zero = refl
 left-start R (suc n) = left-before R (suc n) 0 (omega arith)
 
+-- no lines, nothing cleared
+pub none-left : (R : List (List ℕ)) (n : ℕ) → n ≤ 0 → rowsLeft R n n ≡ R
+none-left R n h = let e : n ≡ 0 = omega arith in ap (λ (k : ℕ). rowsLeft R k k) e ∙ left-start R 0
+
 pub left-cleared : (R : List (List ℕ)) (n : ℕ) → 1 ≤ n → rowsLeft R n n ≡ everywhere (replicate 8 0) R
 unfolding rowsLeft
 left-cleared R zero h = absurd (omega arith)

@@ -36,6 +36,13 @@ asked-all f g (no-to {q} a r) = no-to a (f q r)
 asked-all f g (yes-to y a) = yes-to y (asked-all f g a)
 asked-all f g (answered d) = answered (g d)
 
+-- questions that ask the same
+pub asked-other : {Question Question′ : (Type 0 → Type 0) → ℕ → Type 0} {Refused : ℕ → Type 0} {Done : Type 0} {qs : List ℕ}
+    → Each (λ q. (Question Yes q → Question′ Yes q) × (Question No q → Question′ No q)) qs → Asked Question Refused Done qs → Asked Question′ Refused Done qs
+asked-other f (no-to a r) = no-to (f .0 .1 a) r
+asked-other f (yes-to y a) = yes-to (f .0 .0 y) (asked-other (f .1) a)
+asked-other f (answered d) = answered d
+
 -- what holds after a refusal and after success holds in any case
 pub asked-either : {Question : (Type 0 → Type 0) → ℕ → Type 0} {Refused : ℕ → Type 0} {Done C : Type 0} {qs : List ℕ} → ((q : ℕ) → Refused q → C) → (Done → C)
     → Asked Question Refused Done qs → C

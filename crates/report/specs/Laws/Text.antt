@@ -82,3 +82,6 @@ lines-turn l ls = refl
 pub report-is : (R : List (List ℕ)) (count : ℕ) → count ≤ length R → headText count ++ linesText (linesIn R count) ≡ reportText (linesIn R count)
 unfolding reportText
 report-is R count h = ap (λ (n : ℕ). headText n ++ linesText (linesIn R count)) (sym (lines-length R count h))
+
+pub head-first : (R : List (List ℕ)) (count : ℕ) → count ≤ length R → length (reportText (linesIn R count)) ≡ length (headText count) + length (linesText (linesIn R count))
+head-first R count h = sym (ap length (report-is R count h)) ∙ length-append (headText count) (linesText (linesIn R count))
