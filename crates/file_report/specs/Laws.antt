@@ -1,3 +1,3 @@
 -- What is proved about the answers.
-pub mod Answer
+pub mod TextCall
 pub mod Printed

@@ -11,7 +11,7 @@ use Rattle.search.specs.Reachable.{Fits}
 use Rattle.pareto.specs.Front.{Line, Front}
 use Rattle.pareto.specs.Layout.{plansFor}
 use Rattle.report_text.specs.Report.{reportText, refusalText}
-use Rattle.file_report.specs.Answer.{places, room, planNumbers}
+use Rattle.file_report.specs.TextCall.{places, room, planNumbers}
 
 -- how many bytes of an input are read: one more than a text may have, so that a longer input shows
 abbrev pub inputBytes : ℕ

@@ -2,14 +2,16 @@
 ghost use mathlib.Core.Path.{_≡_};
 ghost use lib.ListN.{replicate};
 ghost use Rattle.task_format.specs.Parse.{parse};
-ghost use Rattle.listing.specs.Slices.{slices};
-ghost use Rattle.printing.specs.Reported.{returned};
-ghost use Rattle.file_report.specs.Answer.{AnsweredIn, Answered};
+ghost use Rattle.questions.specs.Lent.{lent};
+ghost use Rattle.report.specs.ReportCall.{returned};
+ghost use Rattle.file_report.specs.TextCall.{TextCall, Answered};
 ghost use Rattle.file_report.specs.Printed.{inputBytes, AnswerPut};
 use report::Reported;
 use report::print;
 use report_text::put_refusal;
-use strips::MAX_FOLLOWER;
+use rows::BUCKET_WORDS;
+use rows::LINK_WORDS;
+use rows::WORDS;
 use task_format::MAX_TEXT;
 use task_reader::Verdict;
 use task_reader::read;
@@ -30,42 +32,21 @@ pub const OUTPUT_BYTES: usize = 8_192;
 pub fn answer_in<'w, 'b>(
     text: &[u8],
     states: &'w mut [u64],
-    keys: &'w mut [u64],
-    links: &'w mut [usize],
-    tree: &'w mut [usize],
-    marks: &'w mut [u8],
-    values: &'w mut [u64],
-    reached: &'w mut [u8],
-    heads: &'w mut [u32],
-    lists: &'b mut [[u32; MAX_FOLLOWER]],
-    picked: &'w mut [usize],
+    index: &'w mut [[u16; BUCKET_WORDS]],
+    links: &'w mut [[u16; LINK_WORDS]],
+    rows: &'b mut [[u64; WORDS]],
     room: usize,
     plans: &'w mut [u8],
     output: &'w mut [u8],
 ) -> Reported
-    ensures { λ r. ⌜ AnsweredIn (parse (now (text .entry))) (slices (now (states .entry)) (now (keys .entry)) (now (links .entry)) (now (tree .entry)) (now (marks .entry)) (now (values .entry)) (now (reached .entry)) (now (heads .entry)) (now (lists .entry)) (now (picked .entry))) (slices (now (states .exit)) (now (keys .exit)) (now (links .exit)) (now (tree .exit)) (now (marks .exit)) (now (values .exit)) (now (reached .exit)) (now (heads .exit)) (now (lists .exit)) (now (picked .exit))) room (now (plans .entry)) (now (plans .exit)) (now (output .entry)) (now (output .exit)) (returned r) ⌝ }
+    ensures { λ r. ⌜ TextCall (parse (now (text .entry))) (lent states) (lent index) (lent links) (lent rows) room (lent plans) (lent output) (returned r) ⌝ }
 {
     let reading = read(text);
     let verdict = reading.verdict;
     match verdict {
         Verdict::Accepted => {
             let task = reading.task;
-            print(
-                task,
-                states,
-                keys,
-                links,
-                tree,
-                marks,
-                values,
-                reached,
-                heads,
-                lists,
-                picked,
-                room,
-                plans,
-                output,
-            )
+            print(task, states, index, links, rows, room, plans, output)
         }
         Verdict::Refused(refusal) => Reported::Refused(refusal),
     }
@@ -76,29 +57,19 @@ fn answer(text: &[u8], output: &mut [u8]) -> Reported
     ensures { λ r. ⌜ Answered (parse (now (text .entry))) (now (output .entry)) (now (output .exit)) (returned r) ⌝ }
 {
     let mut states = [0u64; PLACES];
-    let mut keys = [0u64; PLACES];
-    let mut links = [0usize; PLACES];
-    let mut tree = [0usize; PLACES];
-    let mut marks = [0u8; PLACES];
-    let mut values = [0u64; PLACES];
-    let mut reached = [0u8; PLACES];
-    let mut heads = [0u32; PLACES];
-    let row = [0u32; MAX_FOLLOWER];
-    let mut lists = [row; PLACES];
-    let mut picked = [0usize; PLACES];
+    let bucket = [0u16; BUCKET_WORDS];
+    let mut index = [bucket; PLACES];
+    let link = [0u16; LINK_WORDS];
+    let mut links = [link; PLACES];
+    let row = [0u64; WORDS];
+    let mut rows = [row; PLACES];
     let mut plans = [0u8; PLAN_NUMBERS];
     answer_in(
         text,
         &mut states,
-        &mut keys,
+        &mut index,
         &mut links,
-        &mut tree,
-        &mut marks,
-        &mut values,
-        &mut reached,
-        &mut heads,
-        &mut lists,
-        &mut picked,
+        &mut rows,
         ENTRIES,
         &mut plans,
         output,

@@ -1,10 +1,10 @@
 -- What is printed is determined by the text, by no more of it than is read, and is the report where that fits.
 use mathlib.Core.Path.{_≡_, refl, sym, ap, _∙_}
-use mathlib.Core.List.{List, _++_}
+use mathlib.Core.List.{List, [], _∷_, _++_, map, List·Memᴰ, List·Memᴰ·head, List·Memᴰ·tail, List·Memᴰ·not-nil}
 use Prim.Native.Nat.{ℕ, _+_, _≤_, _<_}
 use native.Mathlib.Omega.{arith}
 use native.Mathlib.Nat.{zero-add}
-use lib.ListN.{length, take, drop, replicate, length-replicate, length-append}
+use lib.ListN.{length, take, drop, replicate, length-replicate, length-append, length-map}
 use Rattle.strips.specs.Laws.Decision.{asked-yes, asked-no}
 use Rattle.strips.specs.declared.Task.{Task}
 use Rattle.outcome.specs.Limits.{maxNumber}
@@ -18,18 +18,22 @@ use Rattle.round_trip.specs.Theorems.{read-valid}
 use Rattle.text_output.specs.Puts.{Puts}
 use Rattle.text_output.specs.Laws.Puts.{put-over}
 use Rattle.search.specs.Reachable.{Fits}
-use Rattle.response.specs.Answered.{shortest}
+use Rattle.search.specs.Limits.{maxPlaces}
+use Rattle.questions.specs.Lent.{Lent}
+use Rattle.questions.specs.Asked.{no-to, yes-to, answered}
+use Rattle.questions.specs.Size.{SizesAllowed, shortest}
+use Rattle.questions.specs.Memory.{Memory}
+use Rattle.questions.specs.Call.{Returned}
 use Rattle.pareto.specs.Front.{Line, Front}
-use Rattle.pareto.specs.Layout.{plansFor}
+use Rattle.pareto.specs.Layout.{entryFor, plansFor}
 use Rattle.pareto.specs.Laws.Unique.{front-unique}
 use Rattle.outcome.specs.declared.Entry.{Entry}
 use Rattle.report_text.specs.Report.{reportText, refusalText}
 use Rattle.report_text.specs.Laws.Sizes.{refusal-few}
-use Rattle.printing.specs.declared.Reported.{Reported}
-use Rattle.printing.specs.declared.Reported.the-variants.{Written, Refused}
-use Rattle.printing.specs.Reported.{Returned, wrote, returned, Told, too-many, no-entries, no-plans, no-text, tells, Outcome, refused-8, refused-9, tells-front, blank}
-use Rattle.file_report.specs.Answer.{places, room, planNumbers, Answered, refuses, reports}
-use Rattle.file_report.specs.Laws.Answer.{lent-right}
+use Rattle.report.specs.declared.Reported.{Reported}
+use Rattle.report.specs.declared.Reported.the-variants.{Written, Refused}
+use Rattle.report.specs.ReportCall.{Counts, counts, blank, ReportCall, returned}
+use Rattle.file_report.specs.TextCall.{places, room, planNumbers, unread, read-as, TextCall, Answered}
 use Rattle.file_report.specs.Printed.{inputBytes, outputBytes, linesPrinted, Prints, text-refused, reach-refused, front-listed, AnswerPut}
 
 -- two answers to one text are the same
@@ -90,41 +94,104 @@ whole-report {text} {lines = lines} p e f g a b c =
 -- ---- what the answer in lent slices comes to
 
 -- the refusal that is printed, the output as it was; or what is printed stands in the output already
-data Shown (text output output′ : List ℕ) (r : Returned) : Type 0 where
+data Shown (text output output′ : List ℕ) (r : Returned Counts) : Type 0 where
   shown-refusal : 1 ≤ r .number → r .place ≤ inputBytes → Prints text (refusalText (r .number) (r .place)) → output′ ≡ output → Shown text output output′ r
-  shown-report : r .number ≡ 0 → AnswerPut text output output′ (r .bytes) → Shown text output output′ r
+  shown-report : r .number ≡ 0 → AnswerPut text output output′ (r .values .bytes) → Shown text output output′ r
+
+-- question 8 gets yes
+abbrev rowsOf : ℕ → List (List ℕ)
+rowsOf width = replicate places (replicate width 0)
+
+abbrev programSizes : List ℕ
+programSizes = length (replicate {A = ℕ} places 0) ∷ length (rowsOf 4) ∷ length (rowsOf 64) ∷ length (rowsOf 8) ∷ []
+
+programSizes-are : programSizes ≡ places ∷ places ∷ places ∷ places ∷ []
+programSizes-are = rw (length-replicate {A = ℕ} places 0, length-replicate places (replicate {A = ℕ} 4 0), length-replicate places (replicate {A = ℕ} 64 0), length-replicate places (replicate {A = ℕ} 8 0)) refl
+
+sizes-right : SizesAllowed programSizes
+sizes-right n m = of (rw programSizes-are at m)
+  where
+      of : List·Memᴰ n (places ∷ places ∷ places ∷ places ∷ []) → (1 ≤ n) × (n ≤ maxPlaces)
+      of (List·Memᴰ·head e) = (omega (arith, e), omega (arith, e))
+      of (List·Memᴰ·tail (List·Memᴰ·head e)) = (omega (arith, e), omega (arith, e))
+      of (List·Memᴰ·tail (List·Memᴰ·tail (List·Memᴰ·head e))) = (omega (arith, e), omega (arith, e))
+      of (List·Memᴰ·tail (List·Memᴰ·tail (List·Memᴰ·tail (List·Memᴰ·head e)))) = (omega (arith, e), omega (arith, e))
+      of (List·Memᴰ·tail (List·Memᴰ·tail (List·Memᴰ·tail (List·Memᴰ·tail e)))) = absurd (List·Memᴰ·not-nil e)
+
+sizes-shortest : shortest programSizes ≡ places
+unfolding shortest
+sizes-shortest = ap shortest programSizes-are
+
+-- what fits one list of the front's lines fits any
+entries-fit : {ls ls′ : List Line} → length (map entryFor ls) ≤ length (replicate room blank) → ls ≡ ls′ → length ls′ ≤ room
+entries-fit {ls} h e = omega (arith, h, length-map ls entryFor, length-replicate room blank, ap length e)
+
+numbers-fit : {ls ls′ : List Line} → length (plansFor ls) ≤ length (replicate {A = ℕ} planNumbers 0) → ls ≡ ls′ → length (plansFor ls′) ≤ planNumbers
+numbers-fit {ls} h e = omega (arith, h, length-replicate {A = ℕ} planNumbers 0, ap (λ (l : List Line). length (plansFor l)) e)
+
+abbrev from : {A : Type 0} → A → A → Lent A
+from b a = record { before = b; after = a }
 
 module _ {text output : List ℕ} (long : length output ≡ outputBytes) (z : parse text .number ≡ 0) where
   -- a refusal without a place
-  shown-no : (q : ℕ) → 1 ≤ q → Prints text (refusalText q 0) → Shown text output output (record { number = q; place = 0; count = 0; bytes = 0 })
-  shown-no q h p = shown-refusal h (omega arith) p refl
+  shown-no : (q : ℕ) {output′ : List ℕ} {r : Returned Counts} → 1 ≤ q → r ≡ record { number = q; place = 0; values = counts 0 0 } → output′ ≡ output → Prints text (refusalText q 0)
+      → Shown text output output′ r
+  shown-no q h e same p = rw e (shown-refusal h (omega arith) p same)
 
-  told-shown : {r : Returned} {entries′ : List Entry} {plans′ output′ : List ℕ} → Told (parse text .task) places (replicate room blank) (replicate planNumbers 0) output r entries′ plans′ output′ → Shown text output output′ r
-  told-shown (too-many f) = shown-no 13 (omega arith) (reach-refused z f)
-  told-shown (no-entries {lines = ls} f g a) = shown-no 14 (omega arith) (rw (← few-entries ls (omega (arith, length-replicate room blank))) (front-listed z f g))
-  told-shown (no-plans {lines = ls} f g a b) =
-      shown-no 15 (omega arith) (rw (← few-numbers ls (omega (arith, length-replicate room blank)) (omega (arith, length-replicate {A = ℕ} planNumbers 0))) (front-listed z f g))
-  told-shown (no-text {lines = ls} f g a b c) =
-      shown-no 16 (omega arith) (rw (← few-bytes ls (omega (arith, length-replicate room blank)) (omega (arith, length-replicate {A = ℕ} planNumbers 0)) (omega arith)) (front-listed z f g))
-  told-shown (tells {lines = ls} f g a b c) =
-      let whole = report-listed ls (omega (arith, length-replicate room blank)) (omega (arith, length-replicate {A = ℕ} planNumbers 0)) (omega arith) in
-      shown-report refl (record { printed = reportText ls; prints = rw (← whole) (front-listed z f g); output = refl; bytes = refl })
+  -- the promise with what the program lends
+  promise-shown : {S′ : List ℕ} {X′ L′ R′ : List (List ℕ)} {es : List Entry} {plans′ output′ : List ℕ} {r : Returned Counts}
+      → ReportCall (parse text .task) (from (replicate places 0) S′) (from (replicate places (replicate 4 0)) X′) (from (replicate places (replicate 64 0)) L′)
+      (from (replicate places (replicate 8 0)) R′) (from (replicate room blank) es) (from (replicate planNumbers 0) plans′) (from output output′) r → Shown text output output′ r
+  promise-shown (no-to a e) = absurd (a (sizes-right))
+  promise-shown (yes-to _ (no-to a e)) = absurd (a (read-valid text (parse text .task) (parse-accepted text z)))
+  promise-shown (yes-to _ (yes-to _ (no-to a e))) =
+      let short = sizes-shortest in
+      shown-no 13 (omega arith) (e .returns) (ap (λ (m : Memory). m .text) (e .leaves)) (reach-refused z (λ f. a (rw short f)))
+  promise-shown (yes-to _ (yes-to _ (yes-to f (no-to a e)))) =
+      let ls = a .it in
+      let fits = rw (sizes-shortest) at f in
+      let few = few-entries ls (omega (arith, a .holds, length-map ls entryFor, length-replicate room blank)) in
+      shown-no 14 (omega arith) (e .returns) (ap (λ (m : Memory). m .text) (e .leaves)) (rw (← few) (front-listed z fits (a .found)))
+  promise-shown (yes-to _ (yes-to _ (yes-to f (yes-to a (no-to b e))))) =
+      let ls = b .it in
+      let fits = rw (sizes-shortest) at f in
+      let entries = entries-fit (a .holds) (front-unique (parse text .task) (a .found) (b .found)) in
+      let few = few-numbers ls entries (omega (arith, b .holds, length-replicate {A = ℕ} planNumbers 0)) in
+      shown-no 15 (omega arith) (e .returns) (ap (λ (m : Memory). m .text) (e .leaves)) (rw (← few) (front-listed z fits (b .found)))
+  promise-shown (yes-to _ (yes-to _ (yes-to f (yes-to a (yes-to b (no-to c e)))))) =
+      let ls = c .it in
+      let fits = rw (sizes-shortest) at f in
+      let entries = entries-fit (a .holds) (front-unique (parse text .task) (a .found) (c .found)) in
+      let numbers = numbers-fit (b .holds) (front-unique (parse text .task) (b .found) (c .found)) in
+      let few = few-bytes ls entries numbers (omega (arith, c .holds, long)) in
+      shown-no 16 (omega arith) (e .returns) (ap (λ (m : Memory). m .text) (e .leaves)) (rw (← few) (front-listed z fits (c .found)))
+  promise-shown {r = r} (yes-to _ (yes-to _ (yes-to f (yes-to a (yes-to b (yes-to c (answered d))))))) =
+      let ls = d .it in
+      let fits = rw (sizes-shortest) at f in
+      let entries = entries-fit (a .holds) (front-unique (parse text .task) (a .found) (d .found)) in
+      let numbers = numbers-fit (b .holds) (front-unique (parse text .task) (b .found) (d .found)) in
+      let bytes : length (reportText ls) ≤ outputBytes = omega (arith, c .holds, long, ap (λ (l : List Line). length (reportText l)) (front-unique (parse text .task) (c .found) (d .found))) in
+      let whole = report-listed ls entries numbers bytes in
+      shown-report (ap (λ (u : Returned Counts). u .number) (d .holds .returns))
+      (record {
+        printed = reportText ls;
+        prints = rw (← whole) (front-listed z fits (d .found));
+        output = ap (λ (m : Memory). m .text) (d .holds .leaves);
+        bytes = ap (λ (u : Returned Counts). u .values .bytes) (d .holds .returns);
+      })
 
-  outcome-shown : {r : Returned} {entries′ : List Entry} {plans′ output′ : List ℕ} → Outcome (parse text .task) (replicate 10 places) (replicate room blank) (replicate planNumbers 0) output r entries′ plans′ output′ → Shown text output output′ r
-  unfolding shortest
-  outcome-shown (refused-8 f) = absurd (f (lent-right 10))
-  outcome-shown (refused-9 f n) = absurd (n (read-valid text (parse text .task) (parse-accepted text z)))
-  outcome-shown (tells-front f v d) = told-shown d
-
-shown : {text output output′ : List ℕ} {r : Returned} → length output ≡ outputBytes → Answered (parse text) output output′ r → Shown text output output′ r
-shown {text} long (refuses f) = shown-refusal f (parse-place text) (text-refused f) refl
-shown long (reports z a) = outcome-shown long z (a .outcome)
+shown : {text output output′ : List ℕ} {r : Returned Counts} → length output ≡ outputBytes → Answered (parse text) output output′ r → Shown text output output′ r
+shown {text} {output} {output′} {r} long x = of (x .call)
+  where
+    of : TextCall (parse text) (from (replicate places 0) (x .states)) (from (replicate places (replicate 4 0)) (x .index)) (from (replicate places (replicate 64 0)) (x .links))
+        (from (replicate places (replicate 8 0)) (x .rows)) room (from (replicate planNumbers 0) (x .plans)) (from output output′) r → Shown text output output′ r
+    of (unread f y) = rw (y .returns) (shown-refusal f (parse-place text) (text-refused f) (y .text-kept))
+    of (read-as z y) = promise-shown long z (y .1)
 
 pub written-put : {text output output′ : List ℕ} {p : Reported} {k b : ℕ} → length output ≡ outputBytes → p ≡ Written k b → Answered (parse text) output output′ (returned p) → AnswerPut text output output′ b
-unfolding returned
 written-put {text} {output} {output′} {k = k} {b = b} long e a = of (shown {text = text} long (rw e at a))
   where
-    of : Shown text output output′ (wrote k b) → AnswerPut text output output′ b
+    of : Shown text output output′ (record { number = 0; place = 0; values = counts k b }) → AnswerPut text output output′ b
     of (shown-refusal f l x y) = absurd (omega arith)
     of (shown-report f x) = x
 
@@ -135,7 +202,6 @@ pub record Refuses (text output output′ : List ℕ) (q : Refusal) : Type 0 whe
   pub kept : output′ ≡ output
 
 pub refused-prints : {text output output′ : List ℕ} {p : Reported} {q : Refusal} → length output ≡ outputBytes → p ≡ Refused q → Answered (parse text) output output′ (returned p) → Refuses text output output′ q
-unfolding returned
 refused-prints {text} {output} {output′} {q = q} long e a = of (shown {text = text} long (rw e at a))
   where
     of : Shown text output output′ (returned (Refused q)) → Refuses text output output′ q

@@ -15,7 +15,7 @@ use Rattle.front_lines.specs.Laws.Plans.{plans-none}
 use Rattle.front.specs.Asked.{FrontAsked, FrontListed}
 
 -- no lines
-none-listed : (R : List (List ℕ)) → Listed R 0
+pub none-listed : (R : List (List ℕ)) → Listed R 0
 none-listed R = record { inside = omega arith; few = omega arith; readable = λ k h. absurd (omega arith) }
 
 module _ {t : Task} {S : Lent (List ℕ)} {X L R : Lent (List (List ℕ))} {entries numbers : ℕ} {r : Returned ℕ} where

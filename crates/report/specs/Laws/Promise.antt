@@ -1,7 +1,7 @@
 -- With the entries stored, what `list_report` promises is what the calls promise; and that determines all.
 use mathlib.Core.Path.{_≡_, refl, ap, _∙_}
 use mathlib.Core.List.{List}
-use Prim.Native.Nat.{ℕ}
+use Prim.Native.Nat.{ℕ, _≤_}
 use native.Mathlib.Omega.{arith}
 use lib.ListN.{length, replicate, length-replicate}
 use Rattle.strips.specs.declared.Task.{Task}
@@ -9,16 +9,24 @@ use Rattle.outcome.specs.declared.Entry.{Entry}
 use Rattle.questions.specs.Lent.{Lent}
 use Rattle.questions.specs.Memory.{Memory, Slice, fourSlices}
 use Rattle.questions.specs.Call.{Returned, Promise}
-use Rattle.questions.specs.Laws.Asked.{asked-all}
+use Rattle.questions.specs.Laws.Asked.{asked-all, asked-either}
 use Rattle.questions.specs.Laws.Unique.{left, promise-unique}
 use Rattle.pareto.specs.Front.{Line}
 use Rattle.pareto.specs.Laws.Unique.{front-unique}
-use Rattle.front_lines.specs.Lines.{linesIn}
+use Rattle.front_lines.specs.Lines.{linesIn, Listed}
 use Rattle.front_entries.specs.Entries.{stored, rowsLeft}
 use Rattle.front.specs.Laws.Stages.{some-lines}
+use Rattle.front.specs.Laws.Listed.{none-listed}
 use Rattle.front.specs.Laws.Promise.{nothing-stored, entries-stored, rows-cleared, four-cleared}
 use Rattle.report.specs.ReportCall.{Counts, textCall, ReportCall, blank, PrintCall}
 use Rattle.report.specs.Asked.{ReportListed}
+
+-- there is room for the entries of the lines, which can be read
+pub entries-room : {t : Task} {S plans text : Lent (List ℕ)} {X L R : Lent (List (List ℕ))} {entries : ℕ} {r : Returned Counts}
+    → ReportListed t S X L R plans text entries r → (r .values .entries ≤ entries) × Listed (R .after) (r .values .entries)
+entries-room {R = R} = asked-either
+    (λ q x. let z = ap (λ (y : Returned Counts). y .values .entries) (x .returns) in rw z (omega arith, none-listed (R .after)))
+    (λ d. let z = ap (λ (y : Returned Counts). y .values .entries) (d .holds .returns) in rw z (d .holds .entries-fit, d .holds .left .held .listed))
 
 module _ (t : Task) (S : Lent (List ℕ)) (X L : Lent (List (List ℕ))) (R R₁ R′ : List (List ℕ)) (es es′ : List Entry) (plans text : Lent (List ℕ)) (r : Returned Counts) where
   -- what is left in what is lent

@@ -1,6 +1,5 @@
 -- `file_report::answering::answer` meets its contract.
 use borrow.Author.Needs.{needs}
-use Rattle.file_report.specs.Laws.Answer.{program-answered}
 use Rattle.file_report.proofs.answering.answer.Statement.{statement}
 use Rattle.file_report.proofs.answering.answer.Tie as tie
 
@@ -19,24 +18,6 @@ slice-aggregate-answer-in-4 c = search needs
 slice-aggregate-answer-in-5 : tie.Need-slice-aggregate-answer-in-5
 slice-aggregate-answer-in-5 c = search needs
 
-slice-aggregate-answer-in-6 : tie.Need-slice-aggregate-answer-in-6
-slice-aggregate-answer-in-6 c = search needs
-
-slice-aggregate-answer-in-7 : tie.Need-slice-aggregate-answer-in-7
-slice-aggregate-answer-in-7 c = search needs
-
-slice-aggregate-answer-in-8 : tie.Need-slice-aggregate-answer-in-8
-slice-aggregate-answer-in-8 c = search needs
-
-slice-aggregate-answer-in-9 : tie.Need-slice-aggregate-answer-in-9
-slice-aggregate-answer-in-9 c = search needs
-
-slice-aggregate-answer-in-10 : tie.Need-slice-aggregate-answer-in-10
-slice-aggregate-answer-in-10 c = search needs
-
-slice-aggregate-answer-in-11 : tie.Need-slice-aggregate-answer-in-11
-slice-aggregate-answer-in-11 c = search needs
-
 answer-in-requires : tie.Need-answer-in-requires
 answer-in-requires c κs = search needs
 
@@ -44,7 +25,7 @@ same-length : tie.Need-same-length
 same-length c = search needs
 
 returns : tie.Need-returns
-returns c = program-answered (c .before .before .before .before .before .before .before .before .before .before .before .before .before .answer-in .ensures)
+returns c = record { states = _; index = _; links = _; rows = _; plans = _; call = (c .before .before .before .before .before .before .before .answer-in) .ensures }
 
 pub answer-spec : {M : Type 1} → statement M
 answer-spec =
@@ -55,12 +36,6 @@ answer-spec =
     slice-aggregate-answer-in-3
     slice-aggregate-answer-in-4
     slice-aggregate-answer-in-5
-    slice-aggregate-answer-in-6
-    slice-aggregate-answer-in-7
-    slice-aggregate-answer-in-8
-    slice-aggregate-answer-in-9
-    slice-aggregate-answer-in-10
-    slice-aggregate-answer-in-11
     answer-in-requires
     same-length
     returns)

@@ -1,6 +1,7 @@
 -- `file_report::answering::answer_in` meets its contract.
+use native.Mathlib.Omega.{arith}
 use borrow.Author.Needs.{needs}
-use Rattle.file_report.specs.Laws.Answer.{accepted-answered, refused-answered}
+use Rattle.file_report.specs.Laws.TextCall.{accepted-called, refused-called}
 use Rattle.file_report.proofs.answering.answer_in.Statement.{statement}
 use Rattle.file_report.proofs.answering.answer_in.Tie as tie
 
@@ -17,46 +18,28 @@ enum-known-verdict : tie.Need-enum-known-verdict
 enum-known-verdict c = search needs
 
 same-length : tie.Need-same-length
-same-length c = c .before .before .before .before .before .before .before .before .before .before .before .before .before .before .before .before .before .before .before .before .before .before .before .print .kept .1 .0
+same-length c = search needs
 
 same-length-2 : tie.Need-same-length-2
-same-length-2 c = c .before .before .before .before .before .before .before .before .before .before .before .before .before .before .before .before .before .before .before .before .before .before .before .print .kept .1 .1 .0
+same-length-2 c = search needs
 
 same-length-3 : tie.Need-same-length-3
-same-length-3 c = c .before .before .before .before .before .before .before .before .before .before .before .before .before .before .before .before .before .before .before .before .before .before .before .print .kept .1 .1 .1 .0
+same-length-3 c = search needs
 
 same-length-4 : tie.Need-same-length-4
-same-length-4 c = c .before .before .before .before .before .before .before .before .before .before .before .before .before .before .before .before .before .before .before .before .before .before .before .print .kept .1 .1 .1 .1 .0
+same-length-4 c = search needs
 
 same-length-5 : tie.Need-same-length-5
-same-length-5 c = c .before .before .before .before .before .before .before .before .before .before .before .before .before .before .before .before .before .before .before .before .before .before .before .print .kept .1 .1 .1 .1 .1 .0
+same-length-5 c = search needs
 
 same-length-6 : tie.Need-same-length-6
-same-length-6 c = c .before .before .before .before .before .before .before .before .before .before .before .before .before .before .before .before .before .before .before .before .before .before .before .print .kept .1 .1 .1 .1 .1 .1 .0
-
-same-length-7 : tie.Need-same-length-7
-same-length-7 c = c .before .before .before .before .before .before .before .before .before .before .before .before .before .before .before .before .before .before .before .before .before .before .before .print .kept .1 .1 .1 .1 .1 .1 .1 .0
-
-same-length-8 : tie.Need-same-length-8
-same-length-8 c = c .before .before .before .before .before .before .before .before .before .before .before .before .before .before .before .before .before .before .before .before .before .before .before .print .kept .1 .1 .1 .1 .1 .1 .1 .1 .0
-
-same-length-9 : tie.Need-same-length-9
-same-length-9 c = c .before .before .before .before .before .before .before .before .before .before .before .before .before .before .before .before .before .before .before .before .before .before .before .print .kept .1 .1 .1 .1 .1 .1 .1 .1 .1 .0
-
-same-length-10 : tie.Need-same-length-10
-same-length-10 c = c .before .before .before .before .before .before .before .before .before .before .before .before .before .before .before .before .before .before .before .before .before .before .before .print .kept .1 .1 .1 .1 .1 .1 .1 .1 .1 .1 .0
-
-same-length-11 : tie.Need-same-length-11
-same-length-11 c = c .before .before .before .before .before .before .before .before .before .before .before .before .before .before .before .before .before .before .before .before .before .before .before .print .kept .1 .1 .1 .1 .1 .1 .1 .1 .1 .1 .1 .1 .0
-
-same-length-12 : tie.Need-same-length-12
-same-length-12 c = c .before .before .before .before .before .before .before .before .before .before .before .before .before .before .before .before .before .before .before .before .before .before .before .print .kept .1 .1 .1 .1 .1 .1 .1 .1 .1 .1 .1 .1 .1 .0
+same-length-6 c = search needs
 
 returns : tie.Need-returns
-returns c = accepted-answered (c .before .before .before .before .before .before .before .before .before .before .before .before .before .before .before .before .before .before .before .before .before .before .before .before .before .before .before .before .before .before .before .before .before .before .before .before .before .before .before .read .result .task) (c .before .before .before .before .before .before .before .before .before .before .before .before .before .before .before .before .before .before .before .before .before .before .before .before .before .before .before .before .before .before .before .before .before .before .before .before .before .enum-told .given .1) (c .before .before .before .before .before .before .before .before .before .before .before .before .before .before .before .before .before .before .before .before .before .before .before .before .before .before .before .before .before .before .before .before .before .before .before .before .before .before .before .read .ensures) (c .before .before .before .before .before .before .before .before .before .before .before .before .before .before .before .before .before .before .before .before .before .before .before .print .ensures)
+returns c = accepted-called _ _ _ _ ((c .before .before .before .before .before .before .before .before .before .before .before .before .before .before .before .before .before .before .before .before .before .before .before .before) .args .room) _ _ ((c .before .before .before .before .before .before .before .before .before .before .before .before .before .before .before .before .before .before .before .read) .result .task) ((c .before .before .before .before .before .before .before .before .before .before .before .before .before .before .before .before .before .enum-told) .given .1) ((c .before .before .before .before .before .before .before .before .before .before .before .before .before .before .before .before .before .before .before .read) .ensures) ((c .before .before .before .before .before .before .before .before .before .print) .ensures)
 
 returns-2 : tie.Need-returns-2
-returns-2 c = refused-answered (c .before .before .before .read .result .task) (c .before .verdict .given .1) (c .before .before .before .read .ensures)
+returns-2 c = refused-called _ _ _ _ ((c .before .before .before .before .before .before .before .before) .args .room) _ _ ((c .before .before .before .read) .result .task) ((c .before .verdict) .given .1) ((c .before .before .before .read) .ensures)
 
 pub answer-in-spec : {M : Type 1} → statement M
 answer-in-spec =
@@ -72,11 +55,5 @@ answer-in-spec =
     same-length-4
     same-length-5
     same-length-6
-    same-length-7
-    same-length-8
-    same-length-9
-    same-length-10
-    same-length-11
-    same-length-12
     returns
     returns-2)

@@ -13,7 +13,7 @@ use Rattle.report.proofs.text.put_lines.Statement.{statement}
 use Rattle.report.proofs.text.put_lines.Tie as tie
 
 abbrev Inv-loop : tie.InvT-loop
-Inv-loop out₀ start rows count plans at₀ from₀ k₀ out at from k = 
+Inv-loop out₀ start rows count plans at₀ from₀ k₀ out at from k =
     (k ≤ count) × ((beyond : List ℕ) × Ahead plans from (drop k (linesIn rows count)) beyond)
     × Left (linesText (linesIn rows count)) out₀ start (linesText (drop k (linesIn rows count))) out at
 
