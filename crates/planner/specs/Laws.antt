@@ -7,7 +7,7 @@ pub mod Transitions
 pub mod Predecessors
 pub mod Cleared
 pub mod Planned
-pub mod Answered
+pub mod Responded
 pub mod Lent
 pub mod Walks
 pub mod Reachable
