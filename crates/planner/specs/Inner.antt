@@ -2,3 +2,4 @@
 pub mod Columns
 pub mod Weights
 pub mod Searches
+pub mod Goal

@@ -15,3 +15,4 @@ pub mod Solved
 pub mod Tables
 pub mod Searches
 pub mod Within
+pub mod Goal

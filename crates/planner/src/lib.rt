@@ -1,4 +1,5 @@
 // Not for outsiders. The plans of a task: the searches, and what the rows say after them.
+mod goal;
 mod reading;
 mod searches;
 mod weights;
