@@ -3,3 +3,4 @@ pub mod Columns
 pub mod Weights
 pub mod Searches
 pub mod Goal
+pub mod Response

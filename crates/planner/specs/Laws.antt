@@ -16,3 +16,4 @@ pub mod Tables
 pub mod Searches
 pub mod Within
 pub mod Goal
+pub mod Response

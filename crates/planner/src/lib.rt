@@ -1,6 +1,7 @@
 // Not for outsiders. The plans of a task: the searches, and what the rows say after them.
 mod goal;
 mod reading;
+mod response;
 mod searches;
 mod weights;
 
