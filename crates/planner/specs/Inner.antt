@@ -4,3 +4,4 @@ pub mod Weights
 pub mod Searches
 pub mod Goal
 pub mod Response
+pub mod Answer

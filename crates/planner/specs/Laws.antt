@@ -17,3 +17,5 @@ pub mod Searches
 pub mod Within
 pub mod Goal
 pub mod Response
+pub mod Answer
+pub mod AnswerCall
