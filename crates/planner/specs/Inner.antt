@@ -2,3 +2,6 @@
 pub mod Columns
 pub mod Weights
 pub mod Searches
+pub mod Goal
+pub mod Response
+pub mod Answer

@@ -7,7 +7,7 @@ pub mod Transitions
 pub mod Predecessors
 pub mod Cleared
 pub mod Planned
-pub mod Answered
+pub mod Responded
 pub mod Lent
 pub mod Walks
 pub mod Reachable
@@ -15,3 +15,7 @@ pub mod Solved
 pub mod Tables
 pub mod Searches
 pub mod Within
+pub mod Goal
+pub mod Response
+pub mod Answer
+pub mod AnswerCall

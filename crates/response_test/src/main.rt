@@ -1,11 +1,15 @@
 // Best responses on document 01's worked hall and on tasks with detours, loops and ties, all with lent slices that hold other
 // numbers before. What it prints is compared with the file stdout.
-use response::Answered;
-use response::best_response;
+use planner::Answered;
+use planner::best_response;
+use rows::BUCKET_WORDS;
+use rows::LINK_WORDS;
+use rows::WORDS;
 use strips::Task;
 use test_support::action;
 use test_support::bare;
-use test_support::count_bytes;
+use test_support::count_buckets;
+use test_support::count_links;
 use test_support::count_rows;
 use test_support::count_states;
 use test_support::print;
@@ -14,6 +18,15 @@ use test_support::print_field;
 use test_support::print_numbers;
 use test_support::print_refusal;
 use test_support::worked;
+
+// What the working slices hold before a call.
+const STATE: u64 = 9;
+
+const BUCKET: u16 = 8;
+
+const LINK: u16 = 7;
+
+const ROW: u64 = 6;
 
 fn print_answered(answered: Answered) {
     match answered {
@@ -25,25 +38,23 @@ fn print_answered(answered: Answered) {
     }
 }
 
-// The plan slice, and how many places of each working slice are zero.
+// How many places of each working slice are zero, and how many hold what they held before.
 fn print_left(
     states: &[u64],
-    keys: &[u64],
-    links: &[usize],
-    tree: &[usize],
-    marks: &[u8],
-    buckets: &[usize],
-    plan: &[u8],
+    index: &[[u16; BUCKET_WORDS]],
+    links: &[[u16; LINK_WORDS]],
+    rows: &[[u64; WORDS]],
 ) {
-    print(b" plan");
-    print_numbers(plan);
     print(b" zeros");
     print_field(b" states", count_states(states, 0) as u64);
-    print_field(b" keys", count_states(keys, 0) as u64);
-    print_field(b" links", count_rows(links, 0) as u64);
-    print_field(b" tree", count_rows(tree, 0) as u64);
-    print_field(b" marks", count_bytes(marks, 0) as u64);
-    print_field(b" buckets", count_rows(buckets, 0) as u64);
+    print_field(b" index", count_buckets(index, 0) as u64);
+    print_field(b" links", count_links(links, 0) as u64);
+    print_field(b" rows", count_rows(rows, 0) as u64);
+    print(b" untouched");
+    print_field(b" states", count_states(states, STATE) as u64);
+    print_field(b" index", count_buckets(index, BUCKET as u64) as u64);
+    print_field(b" links", count_links(links, LINK as u64) as u64);
+    print_field(b" rows", count_rows(rows, ROW) as u64);
     print(b"\n");
 }
 
@@ -52,87 +63,83 @@ fn respond(
     task: Task,
     leader_plan: &[u8],
     states: &mut [u64],
-    keys: &mut [u64],
-    links: &mut [usize],
-    tree: &mut [usize],
-    marks: &mut [u8],
-    buckets: &mut [usize],
+    index: &mut [[u16; BUCKET_WORDS]],
+    links: &mut [[u16; LINK_WORDS]],
+    rows: &mut [[u64; WORDS]],
     plan: &mut [u8],
 ) {
     print(label);
     print(b":");
-    let answered = best_response(
-        task,
-        leader_plan,
-        states,
-        keys,
-        links,
-        tree,
-        marks,
-        buckets,
-        plan,
-    );
+    let answered = best_response(task, leader_plan, states, index, links, rows, plan);
     print_answered(answered);
-    print_left(states, keys, links, tree, marks, buckets, plan);
+    print(b" plan");
+    print_numbers(plan);
+    print_left(states, index, links, rows);
 }
 
-// Slices of 7 places and more, which is document 01's reach, but for one that the caller lends, and 3 places for the plan.
-fn lend(label: &[u8], task: Task, leader_plan: &[u8], buckets: &mut [usize]) {
-    let mut states = [9u64; 7];
-    let mut keys = [8u64; 8];
-    let mut links = [7usize; 9];
-    let mut tree = [6usize; 7];
-    let mut marks = [2u8; 7];
+// Slices of 7 places and more, which is document 01's reach, but for two that the caller lends, and 3 places for the plan.
+fn lend(
+    label: &[u8],
+    task: Task,
+    leader_plan: &[u8],
+    states: &mut [u64],
+    rows: &mut [[u64; WORDS]],
+) {
+    let mut index = [[BUCKET; BUCKET_WORDS]; 8];
+    let mut links = [[LINK; LINK_WORDS]; 9];
     let mut plan = [99u8; 3];
     respond(
         label,
         task,
         leader_plan,
-        &mut states,
-        &mut keys,
+        states,
+        &mut index,
         &mut links,
-        &mut tree,
-        &mut marks,
-        buckets,
+        rows,
         &mut plan,
     );
 }
 
 fn tight(label: &[u8], task: Task, leader_plan: &[u8]) {
-    let mut buckets = [5usize; 7];
-    lend(label, task, leader_plan, &mut buckets);
+    let mut states = [STATE; 7];
+    let mut rows = [[ROW; WORDS]; 7];
+    lend(label, task, leader_plan, &mut states, &mut rows);
 }
 
 // One of the slices has 6 places.
-fn too_tight(label: &[u8], task: Task, leader_plan: &[u8]) {
-    let mut buckets = [5usize; 6];
-    lend(label, task, leader_plan, &mut buckets);
+fn few_states(label: &[u8], task: Task, leader_plan: &[u8]) {
+    let mut states = [STATE; 6];
+    let mut rows = [[ROW; WORDS]; 7];
+    lend(label, task, leader_plan, &mut states, &mut rows);
+}
+
+fn few_rows(label: &[u8], task: Task, leader_plan: &[u8]) {
+    let mut states = [STATE; 7];
+    let mut rows = [[ROW; WORDS]; 6];
+    lend(label, task, leader_plan, &mut states, &mut rows);
 }
 
 // One of the slices has no place.
-fn no_place(label: &[u8], task: Task, leader_plan: &[u8]) {
-    let mut buckets = [5usize; 0];
-    lend(label, task, leader_plan, &mut buckets);
+fn no_rows(label: &[u8], task: Task, leader_plan: &[u8]) {
+    let mut states = [STATE; 7];
+    let mut rows = [[ROW; WORDS]; 0];
+    lend(label, task, leader_plan, &mut states, &mut rows);
 }
 
 // More places than most of the tasks need.
 fn lend_more(label: &[u8], task: Task, leader_plan: &[u8], plan: &mut [u8]) {
-    let mut states = [9u64; 64];
-    let mut keys = [8u64; 65];
-    let mut links = [7usize; 66];
-    let mut tree = [6usize; 67];
-    let mut marks = [2u8; 68];
-    let mut buckets = [5usize; 69];
+    let mut states = [STATE; 64];
+    let mut index = [[BUCKET; BUCKET_WORDS]; 67];
+    let mut links = [[LINK; LINK_WORDS]; 66];
+    let mut rows = [[ROW; WORDS]; 65];
     respond(
         label,
         task,
         leader_plan,
         &mut states,
-        &mut keys,
+        &mut index,
         &mut links,
-        &mut tree,
-        &mut marks,
-        &mut buckets,
+        &mut rows,
         plan,
     );
 }
@@ -159,7 +166,8 @@ fn floor() {
     tight(b"outage 1", task, &[1]);
     tight(b"outage 2", task, &[2]);
     tight(b"outages 1 2", task, &[1, 2]);
-    too_tight(b"6 places", task, &[]);
+    few_states(b"6 places for states", task, &[]);
+    few_rows(b"6 rows", task, &[]);
     roomy(b"no outage, more places", task, &[]);
     roomy(b"no moves", open_task(), &[]);
     let mut free = worked();
@@ -169,13 +177,13 @@ fn floor() {
 
 fn refusals() {
     let task = worked();
-    no_place(b"no place", task, &[9]);
+    no_rows(b"no rows", task, &[9]);
     let mut broken = worked();
     broken.facts = 0;
     tight(b"no facts", broken, &[9]);
     tight(b"outage 3", task, &[1, 3]);
     tight(b"outages 1 1", task, &[1, 1]);
-    too_tight(b"outages 2 2, 6 places", task, &[2, 2]);
+    few_rows(b"outages 2 2, 6 rows", task, &[2, 2]);
 }
 
 // The direct way costs 100; the way over facts 2 and 3 costs 90.
@@ -263,38 +271,34 @@ fn counter() -> Task {
 }
 
 // As many places as the counter has states, but for a slice and a plan that the caller lends.
-fn count_down(label: &[u8], task: Task, buckets: &mut [usize], plan: &mut [u8]) {
-    let mut states = [9u64; 256];
-    let mut keys = [8u64; 256];
-    let mut links = [7usize; 256];
-    let mut tree = [6usize; 256];
-    let mut marks = [2u8; 256];
+fn count_down(label: &[u8], task: Task, links: &mut [[u16; LINK_WORDS]], plan: &mut [u8]) {
+    let mut states = [STATE; 256];
+    let mut index = [[BUCKET; BUCKET_WORDS]; 256];
+    let mut rows = [[ROW; WORDS]; 256];
     let answered = best_response(
         task,
         &[],
         &mut states,
-        &mut keys,
-        &mut links,
-        &mut tree,
-        &mut marks,
-        buckets,
+        &mut index,
+        links,
+        &mut rows,
         plan,
     );
     print(label);
     print(b":");
     print_answered(answered);
-    print(b"\n");
+    print_left(&states, &index, links, &rows);
 }
 
 fn long_way() {
     let task = counter();
-    let mut buckets = [5usize; 256];
+    let mut links = [[LINK; LINK_WORDS]; 256];
     let mut plan = [99u8; 255];
-    count_down(b"255 steps", task, &mut buckets, &mut plan);
-    let mut fewer = [5usize; 255];
+    count_down(b"255 steps", task, &mut links, &mut plan);
+    let mut fewer = [[LINK; LINK_WORDS]; 255];
     count_down(b"255 steps, 255 places", task, &mut fewer, &mut plan);
     let mut short = [99u8; 254];
-    count_down(b"255 steps, plan of 254", task, &mut buckets, &mut short);
+    count_down(b"255 steps, plan of 254", task, &mut links, &mut short);
 }
 
 fn main() {

@@ -3,9 +3,8 @@ mod counting;
 mod showing;
 mod tasks;
 
-pub use counting::count_bytes;
-pub use counting::count_heads;
-pub use counting::count_lists;
+pub use counting::count_buckets;
+pub use counting::count_links;
 pub use counting::count_rows;
 pub use counting::count_states;
 pub use showing::print;

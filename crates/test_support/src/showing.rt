@@ -2,7 +2,7 @@
 use libc::STDOUT_FILENO;
 use outcome::Answer;
 use outcome::Refusal;
-use pareto::Entry;
+use outcome::Entry;
 
 pub fn print(text: &[u8]) {
     io::write_all(STDOUT_FILENO, text);

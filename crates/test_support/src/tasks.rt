@@ -4,7 +4,7 @@ ghost use Rattle.test_support.specs.Tasks.{act, bareTask, workedHall, ot
 use outcome::Answer;
 use outcome::Minutes;
 use outcome::Price;
-use pareto::Entry;
+use outcome::Entry;
 use strips::Action;
 use strips::MAX_FOLLOWER;
 use strips::MAX_LEADER;

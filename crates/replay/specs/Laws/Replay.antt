@@ -141,6 +141,7 @@ module _ (t : Task) (p q : List ℕ) where
     pub valid : Valid t
     pub leader : Runs (leaderActions t) (t .initial) p middle
     pub follower : Runs (followerActions t) middle q end
+    pub state : replayed t p q .state ≡ end
 
   pub replayed-runs : replayed t p q .number ≡ 0 → BothRun
   replayed-runs z = ask-9 (valid? t)
@@ -155,6 +156,8 @@ module _ (t : Task) (p q : List ℕ) where
         valid = n .valid;
         leader = passes-runs (leaderActions t) (t .initial) p (rw (leader-count (n .valid)) (n .known-leader)) (omega (arith, applied-most (leaderActions t) (t .initial) p));
         follower = passes-runs (followerActions t) middle q (rw (follower-count (n .valid)) (n .known-follower)) (omega (arith, applied-most (followerActions t) middle q));
+        state = ap (λ (r : Returned). r .state)
+            (both-run n (omega (arith, applied-most (leaderActions t) (t .initial) p)) (omega (arith, applied-most (followerActions t) middle q)));
       }
 
       ask-11 : Valid t → length p ≤ maxSteps → length q ≤ maxSteps → Dec (knownSteps (t .«leader_count») p < length p) → Dec (knownSteps (t .«follower_count») q < length q) → BothRun

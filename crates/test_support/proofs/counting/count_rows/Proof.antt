@@ -1,15 +1,15 @@
 -- `test_support::counting::count_rows` meets its contract.
 use Prim.Native.Nat.{_-_}
 use native.Mathlib.Omega.{arith}
-use lib.Dec.{eqb}
 use lib.ListN.{length}
 use borrow.Author.Needs.{needs}
+use Rattle.test_support.specs.Count.{throughout}
 use Rattle.test_support.specs.Laws.Count.{Counting, count-start, count-more, count-stop}
 use Rattle.test_support.proofs.counting.count_rows.Statement.{statement}
 use Rattle.test_support.proofs.counting.count_rows.Tie as tie
 
 abbrev Inv-loop : tie.InvT-loop
-Inv-loop places number same₀ i₀ same i = Counting (λ x. eqb x number) places same i
+Inv-loop places number same₀ i₀ same i = Counting (throughout number) places same i
 
 abbrev μ-loop : tie.MeasureT-loop
 μ-loop places number same₀ i₀ same i = length places - i
@@ -17,17 +17,17 @@ abbrev μ-loop : tie.MeasureT-loop
 loop-holds : tie.Need-loop-holds Inv-loop μ-loop
 loop-holds c = count-start
 
-mul-is-same : tie.Need-mul-is-same Inv-loop μ-loop
-mul-is-same c = search needs
+mul-is-throughout : tie.Need-mul-is-throughout Inv-loop μ-loop
+mul-is-throughout c = search needs
 
-shared-slice-read-is-same : tie.Need-shared-slice-read-is-same Inv-loop μ-loop
-shared-slice-read-is-same c = search needs
+shared-slice-element-is-throughout : tie.Need-shared-slice-element-is-throughout Inv-loop μ-loop
+shared-slice-element-is-throughout c = search needs
 
-is-same-requires : tie.Need-is-same-requires Inv-loop μ-loop
-is-same-requires c κs = search needs
+is-throughout-requires : tie.Need-is-throughout-requires Inv-loop μ-loop
+is-throughout-requires c κs = search needs
 
 loop-again : tie.Need-loop-again Inv-loop μ-loop
-loop-again c = count-more 0 (c .before .before .before .loop .inv) (c .before .before .loop-test .taken) (c .is-same .ensures)
+loop-again c = count-more _ (c .before .before .before .before .loop .inv) (c .before .before .before .loop-test .taken) (c .is-throughout .ensures)
 
 add-same : tie.Need-add-same Inv-loop μ-loop
 add-same c = omega (arith, loop-again c .few)
@@ -48,9 +48,9 @@ count-rows-spec =
     Inv-loop
     μ-loop
     loop-holds
-    mul-is-same
-    shared-slice-read-is-same
-    is-same-requires
+    mul-is-throughout
+    shared-slice-element-is-throughout
+    is-throughout-requires
     add-same
     add-i
     loop-less

@@ -3,8 +3,8 @@ use borrow.Author.Needs.{needs}
 use Rattle.test_support.proofs.counting.is_throughout.Statement.{statement}
 use Rattle.test_support.proofs.counting.is_throughout.Tie as tie
 
-count-heads-requires : tie.Need-count-heads-requires
-count-heads-requires c κs = search needs
+count-states-requires : tie.Need-count-states-requires
+count-states-requires c κs = search needs
 
 is-same-requires : tie.Need-is-same-requires
 is-same-requires c κs = search needs
@@ -13,4 +13,4 @@ returns : tie.Need-returns
 returns c = cc
 
 pub is-throughout-spec : {M : Type 1} → statement M
-is-throughout-spec = tie.close (tie.spec count-heads-requires is-same-requires returns)
+is-throughout-spec = tie.close (tie.spec count-states-requires is-same-requires returns)

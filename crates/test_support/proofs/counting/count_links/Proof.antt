@@ -1,12 +1,12 @@
--- `test_support::counting::count_lists` meets its contract.
+-- `test_support::counting::count_links` meets its contract.
 use Prim.Native.Nat.{_-_}
 use native.Mathlib.Omega.{arith}
 use lib.ListN.{length}
 use borrow.Author.Needs.{needs}
 use Rattle.test_support.specs.Count.{throughout}
 use Rattle.test_support.specs.Laws.Count.{Counting, count-start, count-more, count-stop}
-use Rattle.test_support.proofs.counting.count_lists.Statement.{statement}
-use Rattle.test_support.proofs.counting.count_lists.Tie as tie
+use Rattle.test_support.proofs.counting.count_links.Statement.{statement}
+use Rattle.test_support.proofs.counting.count_links.Tie as tie
 
 abbrev Inv-loop : tie.InvT-loop
 Inv-loop places number same₀ i₀ same i = Counting (throughout number) places same i
@@ -17,17 +17,17 @@ abbrev μ-loop : tie.MeasureT-loop
 loop-holds : tie.Need-loop-holds Inv-loop μ-loop
 loop-holds c = count-start
 
-mul-is-throughout : tie.Need-mul-is-throughout Inv-loop μ-loop
-mul-is-throughout c = search needs
+mul-is-short-throughout : tie.Need-mul-is-short-throughout Inv-loop μ-loop
+mul-is-short-throughout c = search needs
 
-shared-slice-element-is-throughout : tie.Need-shared-slice-element-is-throughout Inv-loop μ-loop
-shared-slice-element-is-throughout c = search needs
+shared-slice-element-is-short-throughout : tie.Need-shared-slice-element-is-short-throughout Inv-loop μ-loop
+shared-slice-element-is-short-throughout c = search needs
 
-is-throughout-requires : tie.Need-is-throughout-requires Inv-loop μ-loop
-is-throughout-requires c κs = search needs
+is-short-throughout-requires : tie.Need-is-short-throughout-requires Inv-loop μ-loop
+is-short-throughout-requires c κs = search needs
 
 loop-again : tie.Need-loop-again Inv-loop μ-loop
-loop-again c = count-more _ (c .before .before .before .before .loop .inv) (c .before .before .before .loop-test .taken) (c .is-throughout .ensures)
+loop-again c = count-more _ (c .before .before .before .before .loop .inv) (c .before .before .before .loop-test .taken) (c .is-short-throughout .ensures)
 
 add-same : tie.Need-add-same Inv-loop μ-loop
 add-same c = omega (arith, loop-again c .few)
@@ -41,16 +41,16 @@ loop-less c = search needs
 returns : tie.Need-returns Inv-loop μ-loop
 returns c = count-stop (c .before .loop .inv) (omega arith)
 
-pub count-lists-spec : {M : Type 1} → statement M
-count-lists-spec =
+pub count-links-spec : {M : Type 1} → statement M
+count-links-spec =
     tie.close
     (tie.spec
     Inv-loop
     μ-loop
     loop-holds
-    mul-is-throughout
-    shared-slice-element-is-throughout
-    is-throughout-requires
+    mul-is-short-throughout
+    shared-slice-element-is-short-throughout
+    is-short-throughout-requires
     add-same
     add-i
     loop-less

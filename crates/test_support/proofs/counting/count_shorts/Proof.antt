@@ -1,12 +1,12 @@
--- `test_support::counting::count_bytes` meets its contract.
+-- `test_support::counting::count_shorts` meets its contract.
 use Prim.Native.Nat.{_-_}
 use native.Mathlib.Omega.{arith}
 use lib.Dec.{eqb}
 use lib.ListN.{length}
 use borrow.Author.Needs.{needs}
 use Rattle.test_support.specs.Laws.Count.{Counting, count-start, count-more, count-stop}
-use Rattle.test_support.proofs.counting.count_bytes.Statement.{statement}
-use Rattle.test_support.proofs.counting.count_bytes.Tie as tie
+use Rattle.test_support.proofs.counting.count_shorts.Statement.{statement}
+use Rattle.test_support.proofs.counting.count_shorts.Tie as tie
 
 abbrev Inv-loop : tie.InvT-loop
 Inv-loop places number same₀ i₀ same i = Counting (λ x. eqb x number) places same i
@@ -16,6 +16,9 @@ abbrev μ-loop : tie.MeasureT-loop
 
 loop-holds : tie.Need-loop-holds Inv-loop μ-loop
 loop-holds c = count-start
+
+mul-is-same : tie.Need-mul-is-same Inv-loop μ-loop
+mul-is-same c = search needs
 
 shared-slice-read-is-same : tie.Need-shared-slice-read-is-same Inv-loop μ-loop
 shared-slice-read-is-same c = search needs
@@ -41,13 +44,14 @@ loop-less c = search needs
 returns : tie.Need-returns Inv-loop μ-loop
 returns c = count-stop (c .before .loop .inv) (omega arith)
 
-pub count-bytes-spec : {M : Type 1} → statement M
-count-bytes-spec =
+pub count-shorts-spec : {M : Type 1} → statement M
+count-shorts-spec =
     tie.close
     (tie.spec
     Inv-loop
     μ-loop
     loop-holds
+    mul-is-same
     shared-slice-read-is-same
     cast-is-same
     is-same-requires
