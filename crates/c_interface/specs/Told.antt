@@ -4,9 +4,10 @@ use mathlib.Core.List.{List, [], _∷_, _++_}
 use Prim.Native.Nat.{ℕ}
 use lib.ListN.{length, take, drop}
 use Rattle.task_format.specs.Parse.{Read}
-use Rattle.listing.specs.Slices.{Slices}
-use Rattle.printing.specs.Reported.{Returned}
-use Rattle.file_report.specs.Answer.{AnsweredIn}
+use Rattle.questions.specs.Lent.{Lent}
+use Rattle.questions.specs.Call.{Returned}
+use Rattle.report.specs.ReportCall.{Counts}
+use Rattle.file_report.specs.TextCall.{TextCall}
 
 -- the first places hold the numbers, as many of them as there are places; the places beyond the numbers are as they were
 unfoldable pub toldIn : List ℕ → List ℕ → List ℕ
@@ -17,11 +18,11 @@ abbrev pub readNumbers : Read → List ℕ
 readNumbers r = r .number ∷ r .place ∷ []
 
 -- of a report: these, and the number of entries and of bytes written
-abbrev pub reportNumbers : Returned → List ℕ
-reportNumbers r = r .number ∷ r .place ∷ r .count ∷ r .bytes ∷ []
+abbrev pub reportNumbers : Returned Counts → List ℕ
+reportNumbers r = r .number ∷ r .place ∷ r .values .entries ∷ r .values .bytes ∷ []
 
 -- the report of a text in lent slices, and what is told of it
-pub record ReportTold (read : Read) (w w′ : Slices) (room : ℕ) (plans plans′ output output′ told told′ : List ℕ) : Type 0 where
-  pub returned : Returned
-  pub answered : AnsweredIn read w w′ room plans plans′ output output′ returned
-  pub tells : told′ ≡ toldIn (reportNumbers returned) told
+pub record ReportTold (read : Read) (S : Lent (List ℕ)) (X L R : Lent (List (List ℕ))) (room : ℕ) (plans output told : Lent (List ℕ)) : Type 0 where
+  pub returned : Returned Counts
+  pub call : TextCall read S X L R room plans output returned
+  pub tells : told .after ≡ toldIn (reportNumbers returned) (told .before)

@@ -3,10 +3,12 @@ mod telling;
 
 ghost use mathlib.Core.Path.{_≡_};
 ghost use Rattle.task_format.specs.Parse.{parse};
-ghost use Rattle.listing.specs.Slices.{slices};
+ghost use Rattle.questions.specs.Lent.{lent};
 ghost use Rattle.c_interface.specs.Told.{toldIn, readNumbers, ReportTold};
 use file_report::answer_in;
-use strips::MAX_FOLLOWER;
+use rows::BUCKET_WORDS;
+use rows::LINK_WORDS;
+use rows::WORDS;
 use task_reader::read;
 use telling::tell_reading;
 use telling::tell_report;
@@ -17,38 +19,17 @@ use telling::tell_report;
 pub extern "C" fn faldwern_report<'w, 'b>(
     text: &[u8],
     states: &'w mut [u64],
-    keys: &'w mut [u64],
-    links: &'w mut [usize],
-    tree: &'w mut [usize],
-    marks: &'w mut [u8],
-    values: &'w mut [u64],
-    reached: &'w mut [u8],
-    heads: &'w mut [u32],
-    lists: &'b mut [[u32; MAX_FOLLOWER]],
-    picked: &'w mut [usize],
+    index: &'w mut [[u16; BUCKET_WORDS]],
+    links: &'w mut [[u16; LINK_WORDS]],
+    rows: &'b mut [[u64; WORDS]],
     room: usize,
     plans: &'w mut [u8],
     output: &'w mut [u8],
     told: &mut [usize],
 )
-    ensures { λ _. ⌜ ReportTold (parse (now (text .entry))) (slices (now (states .entry)) (now (keys .entry)) (now (links .entry)) (now (tree .entry)) (now (marks .entry)) (now (values .entry)) (now (reached .entry)) (now (heads .entry)) (now (lists .entry)) (now (picked .entry))) (slices (now (states .exit)) (now (keys .exit)) (now (links .exit)) (now (tree .exit)) (now (marks .exit)) (now (values .exit)) (now (reached .exit)) (now (heads .exit)) (now (lists .exit)) (now (picked .exit))) room (now (plans .entry)) (now (plans .exit)) (now (output .entry)) (now (output .exit)) (now (told .entry)) (now (told .exit)) ⌝ }
+    ensures { λ _. ⌜ ReportTold (parse (now (text .entry))) (lent states) (lent index) (lent links) (lent rows) room (lent plans) (lent output) (lent told) ⌝ }
 {
-    let reported = answer_in(
-        text,
-        states,
-        keys,
-        links,
-        tree,
-        marks,
-        values,
-        reached,
-        heads,
-        lists,
-        picked,
-        room,
-        plans,
-        output,
-    );
+    let reported = answer_in(text, states, index, links, rows, room, plans, output);
     tell_report(reported, told);
 }
 

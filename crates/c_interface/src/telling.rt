@@ -3,7 +3,7 @@ ghost use mathlib.Core.Path.{_≡_};
 ghost use mathlib.Core.List.{[], _∷_};
 ghost use lib.ListN.{set};
 ghost use Rattle.task_reader.specs.Reading as T;
-ghost use Rattle.printing.specs.Reported.{returned};
+ghost use Rattle.report.specs.ReportCall.{returned};
 ghost use Rattle.c_interface.specs.Told.{toldIn, readNumbers, reportNumbers};
 use report::Reported;
 use task_reader::Reading;

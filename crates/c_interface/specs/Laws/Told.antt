@@ -11,12 +11,17 @@ use Rattle.task_format.specs.Parse.{Read}
 use Rattle.outcome.specs.declared.Verdict.{Verdict}
 use Rattle.outcome.specs.declared.Verdict.the-variants.{Accepted, Refused}
 use Rattle.task_reader.specs.Reading.{reported}
-use Rattle.listing.specs.Slices.{Slices}
-use Rattle.printing.specs.declared.Reported.{Reported}
-use Rattle.printing.specs.declared.Reported.the-variants.{Written, Refused as Report-Refused}
-use Rattle.printing.specs.Reported.{Returned, returned}
-use Rattle.file_report.specs.Laws.Answer.{answered-in-unique}
+use Rattle.questions.specs.Lent.{Lent}
+use Rattle.questions.specs.Memory.{fourSlices}
+use Rattle.questions.specs.Call.{Returned}
+use Rattle.report.specs.declared.Reported.{Reported}
+use Rattle.report.specs.declared.Reported.the-variants.{Written, Refused as Report-Refused}
+use Rattle.report.specs.ReportCall.{Counts, returned}
+use Rattle.file_report.specs.Laws.TextCall.{text-unique}
 use Rattle.c_interface.specs.Told.{toldIn, readNumbers, reportNumbers, ReportTold}
+
+abbrev from : {A : Type 0} → A → A → Lent A
+from b a = record { before = b; after = a }
 
 pub two-told : (a b : ℕ) (told : List ℕ) → set (set told 0 a) 1 b ≡ toldIn (a ∷ b ∷ []) told
 unfolding toldIn
@@ -35,11 +40,9 @@ four-told a b c d (x ∷ y ∷ z ∷ u ∷ told) = rw (take-nil {A = ℕ} (lengt
 -- the numbers that are told are those of what is returned
 module _ (told : List ℕ) {told′ : List ℕ} where
   pub written-told : {p : Reported} {k b : ℕ} → p ≡ Written k b → told′ ≡ toldIn (0 ∷ 0 ∷ k ∷ b ∷ []) told → told′ ≡ toldIn (reportNumbers (returned p)) told
-  unfolding returned
   written-told e h = rw e h
 
   pub refused-told : {p : Reported} {q : Refusal} {n m : ℕ} → p ≡ Report-Refused q → n ≡ numberOf q → m ≡ placeOf q → told′ ≡ toldIn (n ∷ m ∷ 0 ∷ 0 ∷ []) told → told′ ≡ toldIn (reportNumbers (returned p)) told
-  unfolding returned
   refused-told e f g h = rw (e, sym f, sym g) h
 
   pub accepted-told : {v : Verdict} (t : Task) → v ≡ Accepted → told′ ≡ toldIn (0 ∷ 0 ∷ []) told → told′ ≡ toldIn (readNumbers (reported v t)) told
@@ -51,8 +54,10 @@ module _ (told : List ℕ) {told′ : List ℕ} where
   unread-told t e f g h = rw (e, sym f, sym g) h
 
 -- two reports of one text in the same slices agree in every lent place
-pub told-unique : {read : Read} {w w₁ w₂ : Slices} {room : ℕ} {plans p q output x y told l m : List ℕ} → ReportTold read w w₁ room plans p output x told l → ReportTold read w w₂ room plans q output y told m
-    → (l ≡ m) × (p ≡ q) × (x ≡ y) × (w₁ ≡ w₂)
-told-unique {told = told} a b =
-    let same = answered-in-unique (a .answered) (b .answered) in
-    (a .tells ∙ ap (λ (r : Returned). toldIn (reportNumbers r) told) (same .0) ∙ sym (b .tells), same .1, same .2, same .3)
+pub told-unique : {read : Read} {S S₁ S₂ : List ℕ} {X X₁ X₂ L L₁ L₂ R R₁ R₂ : List (List ℕ)} (room : ℕ) {P P₁ P₂ O O₁ O₂ T T₁ T₂ : List ℕ}
+    → ReportTold read (from S S₁) (from X X₁) (from L L₁) (from R R₁) room (from P P₁) (from O O₁) (from T T₁)
+    → ReportTold read (from S S₂) (from X X₂) (from L L₂) (from R R₂) room (from P P₂) (from O O₂) (from T T₂)
+    → (T₁ ≡ T₂) × (P₁ ≡ P₂) × (O₁ ≡ O₂) × (fourSlices S₁ X₁ L₁ R₁ ≡ fourSlices S₂ X₂ L₂ R₂)
+told-unique room {T = T} a b =
+    let same = text-unique room (a .call) (b .call) in
+    (a .tells ∙ ap (λ (r : Returned Counts). toldIn (reportNumbers r) T) (same .returned) ∙ sym (b .tells), same .plans, same .text, same .slices)
