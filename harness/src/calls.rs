@@ -1,9 +1,12 @@
 //! The proved calls, declared as `crates/c_interface` exports them, and wrapped for safe use.
 
+use crate::planner::SLICES;
 use crate::random::Random;
-use crate::task::{Refusal, MAX_FOLLOWER};
+use crate::task::Refusal;
 
-type Row = [u32; MAX_FOLLOWER];
+type Bucket = [u16; 4];
+type Link = [u16; 64];
+type Row = [u64; 8];
 
 extern "C" {
     fn faldwern_report(
@@ -11,24 +14,12 @@ extern "C" {
         text_len: usize,
         states: *mut u64,
         states_len: usize,
-        keys: *mut u64,
-        keys_len: usize,
-        links: *mut usize,
+        index: *mut Bucket,
+        index_len: usize,
+        links: *mut Link,
         links_len: usize,
-        tree: *mut usize,
-        tree_len: usize,
-        marks: *mut u8,
-        marks_len: usize,
-        values: *mut u64,
-        values_len: usize,
-        reached: *mut u8,
-        reached_len: usize,
-        heads: *mut u32,
-        heads_len: usize,
-        lists: *mut Row,
-        lists_len: usize,
-        picked: *mut usize,
-        picked_len: usize,
+        rows: *mut Row,
+        rows_len: usize,
         room: usize,
         plans: *mut u8,
         plans_len: usize,
@@ -41,39 +32,27 @@ extern "C" {
     fn faldwern_read(text: *const u8, text_len: usize, told: *mut usize, told_len: usize);
 }
 
-/// The ten working slices.
+/// The four working slices.
 #[derive(Clone, Debug, PartialEq, Eq)]
 pub struct Working {
     pub states: Vec<u64>,
-    pub keys: Vec<u64>,
-    pub links: Vec<usize>,
-    pub tree: Vec<usize>,
-    pub marks: Vec<u8>,
-    pub values: Vec<u64>,
-    pub reached: Vec<u8>,
-    pub heads: Vec<u32>,
-    pub lists: Vec<Row>,
-    pub picked: Vec<usize>,
+    pub index: Vec<Bucket>,
+    pub links: Vec<Link>,
+    pub rows: Vec<Row>,
 }
 
 impl Working {
     /// Zeros, so many places of each slice.
-    pub fn clear(places: [usize; 10]) -> Working {
+    pub fn clear(places: [usize; SLICES]) -> Working {
         Working {
             states: vec![0; places[0]],
-            keys: vec![0; places[1]],
-            links: vec![0; places[2]],
-            tree: vec![0; places[3]],
-            marks: vec![0; places[4]],
-            values: vec![0; places[5]],
-            reached: vec![0; places[6]],
-            heads: vec![0; places[7]],
-            lists: vec![[0; MAX_FOLLOWER]; places[8]],
-            picked: vec![0; places[9]],
+            index: vec![[0; 4]; places[1]],
+            links: vec![[0; 64]; places[2]],
+            rows: vec![[0; 8]; places[3]],
         }
     }
 
-    /// Any content: whole words of it, or small numbers that look like rows and marks.
+    /// Any content: whole words of it, or small numbers that look like rows.
     pub fn soil(&mut self, random: &mut Random) {
         let most = random.of(&[u64::MAX, 3, 40_000]);
         let mut any = || match most {
@@ -81,30 +60,13 @@ impl Working {
             most => random.next() % most,
         };
         self.states.fill_with(&mut any);
-        self.keys.fill_with(&mut any);
-        self.links.fill_with(|| any() as usize);
-        self.tree.fill_with(|| any() as usize);
-        self.marks.fill_with(|| any() as u8);
-        self.values.fill_with(&mut any);
-        self.reached.fill_with(|| any() as u8);
-        self.heads.fill_with(|| any() as u32);
-        self.lists.as_flattened_mut().fill_with(|| any() as u32);
-        self.picked.fill_with(|| any() as usize);
+        self.index.as_flattened_mut().fill_with(|| any() as u16);
+        self.links.as_flattened_mut().fill_with(|| any() as u16);
+        self.rows.as_flattened_mut().fill_with(&mut any);
     }
 
-    pub fn places(&self) -> [usize; 10] {
-        [
-            self.states.len(),
-            self.keys.len(),
-            self.links.len(),
-            self.tree.len(),
-            self.marks.len(),
-            self.values.len(),
-            self.reached.len(),
-            self.heads.len(),
-            self.lists.len(),
-            self.picked.len(),
-        ]
+    pub fn places(&self) -> [usize; SLICES] {
+        [self.states.len(), self.index.len(), self.links.len(), self.rows.len()]
     }
 
     pub fn is_clear(&self) -> bool {
@@ -137,24 +99,12 @@ pub fn report_told(
             text.len(),
             working.states.as_mut_ptr(),
             working.states.len(),
-            working.keys.as_mut_ptr(),
-            working.keys.len(),
+            working.index.as_mut_ptr(),
+            working.index.len(),
             working.links.as_mut_ptr(),
             working.links.len(),
-            working.tree.as_mut_ptr(),
-            working.tree.len(),
-            working.marks.as_mut_ptr(),
-            working.marks.len(),
-            working.values.as_mut_ptr(),
-            working.values.len(),
-            working.reached.as_mut_ptr(),
-            working.reached.len(),
-            working.heads.as_mut_ptr(),
-            working.heads.len(),
-            working.lists.as_mut_ptr(),
-            working.lists.len(),
-            working.picked.as_mut_ptr(),
-            working.picked.len(),
+            working.rows.as_mut_ptr(),
+            working.rows.len(),
             room,
             plans.as_mut_ptr(),
             plans.len(),

@@ -2,7 +2,7 @@
 
 use harness::calls::{report, report_told, Working, Written};
 use harness::halls::{any_text, FAMILIES};
-use harness::planner::{run, Lent, Report, MAX_PLACES};
+use harness::planner::{run, Lent, Report, MAX_PLACES, SLICES};
 use harness::random::Random;
 use harness::task::{write, Refusal};
 
@@ -72,12 +72,12 @@ fn fitting(random: &mut Random, report: &Report) -> Lent {
         _ => exact,
     };
     let (entries, plans, text) = (near(report.lines.len()), near(report.plans.len()), near(report.text.len()));
-    let mut places = [report.reach; 10];
+    let mut places = [report.reach; SLICES];
     if random.once_in(2) {
         places.fill_with(|| report.reach + random.within(0, 9));
     }
     if random.once_in(6) {
-        places[random.within(0, 9)] = random.of(&[0, 1, report.reach - 1, MAX_PLACES + 1]);
+        places[random.within(0, SLICES - 1)] = random.of(&[0, 1, report.reach - 1, MAX_PLACES + 1]);
     }
     Lent { places, entries, plans, text }
 }
@@ -89,9 +89,9 @@ fn random_texts() {
     let mut numbers = [0; 17];
     for _ in 0..TEXTS {
         let text = any_text(&mut random);
-        let lent = match run(&text, &Lent { places: [LARGE; 10], ..Lent::most() }) {
+        let lent = match run(&text, &Lent { places: [LARGE; SLICES], ..Lent::most() }) {
             Ok(report) => fitting(&mut random, &report),
-            Err(_) => Lent { places: [random.within(0, 50); 10], entries: 5, plans: 20, text: 200 },
+            Err(_) => Lent { places: [random.within(0, 50); SLICES], entries: 5, plans: 20, text: 200 },
         };
         let outcome = compare(&mut random, &text, &lent);
         numbers[outcome.err().map_or(0, |refusal| refusal.number)] += 1;
@@ -107,7 +107,7 @@ fn random_texts() {
 /// One place, entry, plan number or byte too few, and the question that gets no.
 fn too_short(random: &mut Random, exact: &Lent) -> [(usize, Lent); 4] {
     let mut places = exact.places;
-    places[random.within(0, 9)] -= 1;
+    places[random.within(0, SLICES - 1)] -= 1;
     [
         (13, Lent { places, ..*exact }),
         (14, Lent { entries: exact.entries - 1, ..*exact }),
@@ -122,7 +122,7 @@ fn compare_around(random: &mut Random, text: &[u8]) -> Report {
     let exact = Lent::exactly(&report);
     assert_eq!(compare(random, text, &exact), Ok(report.clone()));
     let roomy =
-        Lent { places: [MAX_PLACES; 10], entries: exact.entries + 1, plans: exact.plans + 9, text: exact.text + 9 };
+        Lent { places: [MAX_PLACES; SLICES], entries: exact.entries + 1, plans: exact.plans + 9, text: exact.text + 9 };
     assert_eq!(compare(random, text, &roomy), Ok(report.clone()));
     for (number, lent) in too_short(random, &exact) {
         assert_eq!(compare(random, text, &lent), Err(Refusal::of(number)));
@@ -154,7 +154,7 @@ fn the_worked_hall() {
 #[test]
 fn one_place() {
     let text = b"facts=1\nstart=1\ngoal=1\noutages=0\nmoves=0\n";
-    let lent = Lent { places: [1; 10], entries: 1, plans: 0, text: 44 };
+    let lent = Lent { places: [1; SLICES], entries: 1, plans: 0, text: 44 };
     let mut random = Random::new(SEED);
     let report = compare(&mut random, text, &lent).unwrap();
     assert_eq!((report.reach, report.text.len()), (1, 43));
@@ -165,9 +165,9 @@ fn one_place() {
 fn each_slice_is_asked() {
     let text = b"facts=1\nstart=1\ngoal=1\noutages=0\nmoves=0\n";
     let mut random = Random::new(SEED);
-    for slice in 0..10 {
+    for slice in 0..SLICES {
         for (places, expected) in [(0, Err(8)), (1, Ok(())), (MAX_PLACES, Ok(())), (MAX_PLACES + 1, Err(8))] {
-            let mut lent = Lent { places: [3; 10], entries: 1, plans: 0, text: 50 };
+            let mut lent = Lent { places: [3; SLICES], entries: 1, plans: 0, text: 50 };
             lent.places[slice] = places;
             assert_eq!(compare(&mut random, text, &lent).map(|_| ()).map_err(|refusal| refusal.number), expected);
             assert_eq!(compare(&mut random, b"", &lent), Err(Refusal { number: 2, place: 1 }));
@@ -181,7 +181,7 @@ fn only_the_first_places_are_told() {
     for (room, expected) in [(1, [0, 0, 1, 43]), (0, [14, 0, 0, 0])] {
         for length in 0..7 {
             let mut told = vec![77; length];
-            report_told(text, &mut Working::clear([2; 10]), room, &mut [], &mut [0; 60], &mut told);
+            report_told(text, &mut Working::clear([2; SLICES]), room, &mut [], &mut [0; 60], &mut told);
             let mut wanted = vec![77; length];
             wanted.iter_mut().zip(expected).for_each(|(place, number)| *place = number);
             assert_eq!(told, wanted);

@@ -6,7 +6,7 @@ use std::time::{Duration, Instant};
 
 use harness::calls::{report, Working};
 use harness::halls::{Family, FAMILIES};
-use harness::planner::{run, Lent, MAX_PLACES};
+use harness::planner::{run, Lent, MAX_PLACES, SLICES};
 use harness::random::Random;
 use harness::task::write;
 
@@ -39,7 +39,7 @@ fn medians<const N: usize>(mut calls: [&mut dyn FnMut() -> Duration; N]) -> [Dur
 /// The proved report in slices of so many places, which are soiled before the time is taken.
 fn proved<'t>(text: &'t [u8], places: usize, lent: &'t Lent) -> impl FnMut() -> Duration + 't {
     let mut random = Random::new(SEED);
-    let mut working = Working::clear([places; 10]);
+    let mut working = Working::clear([places; SLICES]);
     let (mut plans, mut output) = (vec![0; lent.plans], vec![0; lent.text]);
     move || {
         working.soil(&mut random);
