@@ -18,4 +18,6 @@ pub mod Within
 pub mod Goal
 pub mod Response
 pub mod Answer
+pub mod Workspace
+pub mod Questions
 pub mod AnswerCall

@@ -1,5 +1,4 @@
 // The answer call: the questions in their order, and the best response to a leader plan.
-ghost use Prim.Native.Nat.{_≤_};
 ghost use Rattle.questions.specs.Lent.{lent};
 ghost use Rattle.planner.specs.AnswerCall.{AnswerCall, returned};
 ghost use Rattle.planner.specs.Inner.Answer.{PlanReady, RowAnswered, WorkspaceCleared, Searching, AnswerStage};

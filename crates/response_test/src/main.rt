@@ -275,15 +275,7 @@ fn count_down(label: &[u8], task: Task, links: &mut [[u16; LINK_WORDS]], plan: &
     let mut states = [STATE; 256];
     let mut index = [[BUCKET; BUCKET_WORDS]; 256];
     let mut rows = [[ROW; WORDS]; 256];
-    let answered = best_response(
-        task,
-        &[],
-        &mut states,
-        &mut index,
-        links,
-        &mut rows,
-        plan,
-    );
+    let answered = best_response(task, &[], &mut states, &mut index, links, &mut rows, plan);
     print(label);
     print(b":");
     print_answered(answered);

@@ -2,9 +2,9 @@
 ghost use mathlib.Core.Path.{_≡_};
 ghost use Rattle.test_support.specs.Tasks.{act, bareTask, workedHall, otherEntry};
 use outcome::Answer;
+use outcome::Entry;
 use outcome::Minutes;
 use outcome::Price;
-use outcome::Entry;
 use strips::Action;
 use strips::MAX_FOLLOWER;
 use strips::MAX_LEADER;

@@ -5,6 +5,7 @@ use Prim.Native.Nat.{ℕ, _-_, _≤_}
 use lib.ListN.{length}
 use Rattle.strips.specs.Task.{Valid, leaderActions}
 use Rattle.strips.specs.declared.Task.{Task}
+use Rattle.outcome.specs.Answer.{Value, minutes}
 use Rattle.replay.specs.Replay.{endState}
 use Rattle.search.specs.Reachable.{Reach}
 use Rattle.questions.specs.Lent.{Lent, over}
@@ -22,6 +23,17 @@ response-asks = 13 ∷ 15 ∷ []
 -- working slices of these sizes, and this plan slice
 abbrev pub planRoom : List ℕ → List ℕ → Room
 planRoom sizes plan = record { sizes = sizes; entries = 0; plans = length plan; text = 0 }
+
+-- a plan slice before and after
+abbrev pub slice : List ℕ → List ℕ → Lent (List ℕ)
+slice b a = record { before = b; after = a }
+
+-- a refusal that has no place, and an answer with so many steps
+abbrev pub refusal : ℕ → Returned AnswerSteps
+refusal q = record { number = q; place = 0; values = record { answer = minutes 0; steps = 0 } }
+
+abbrev pub answer-of : Value → ℕ → Returned AnswerSteps
+answer-of v n = record { number = 0; place = 0; values = record { answer = v; steps = n } }
 
 -- what is returned, and what the plan slice holds then
 abbrev pub AnswerAsked : Task → (leader-plan sizes : List ℕ) → Lent (List ℕ) → Returned AnswerSteps → Type 0

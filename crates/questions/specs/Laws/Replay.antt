@@ -16,11 +16,12 @@ use Rattle.strips.specs.declared.Task.{Task}
 use Rattle.replay.specs.Replay.{Returned, refused, knownSteps, appliedSteps, endState, replayed}
 use Rattle.replay.specs.Run.{Numbered}
 use Rattle.replay.specs.Laws.Steps.{known-most, applied-most}
-use Rattle.replay.specs.Laws.Replay.{refuses-9, refuses-10-leader, refuses-10-follower, refuses-11-leader, refuses-11-follower, refuses-12-leader, refuses-12-follower, both-run}
+use Rattle.replay.specs.Laws.Replay.{refuses-9, refuses-10-leader, refuses-10-follower, refuses-11-leader, refuses-11-follower}
+use Rattle.replay.specs.Laws.Replay.{refuses-12-leader, refuses-12-follower, both-run}
 use Rattle.questions.specs.Asked.{Asked, no-to, yes-to}
 use Rattle.questions.specs.Memory.{Room}
 use Rattle.questions.specs.Record.{record-asks}
-use Rattle.questions.specs.Call.{Call, Question, known, applied, place}
+use Rattle.questions.specs.Call.{Call, Question, known, place}
 use Rattle.questions.specs.Laws.Asked.{Each}
 
 abbrev pub plans-asks : List ℕ

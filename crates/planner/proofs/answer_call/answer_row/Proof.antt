@@ -1,5 +1,4 @@
 -- `planner::answer_call::answer_row` meets its contract.
-use mathlib.Core.Path.{_≡_}
 use Prim.Native.Nat.{_-_, _≤_}
 use native.Mathlib.Omega.{arith}
 use lib.ListN.{length}

@@ -5,7 +5,8 @@ use lib.ListN.{length}
 use borrow.Author.Needs.{needs}
 use Rattle.questions.specs.Size.{SizesAllowed}
 use Rattle.questions.specs.Laws.Size.{capacity-none, capacity-some}
-use Rattle.planner.specs.Laws.Answer.{told-ran, told-refused, ran-state, ran-valid, ran-reach, spacious, sizes-refused, replay-refused, replay-ran}
+use Rattle.planner.specs.Laws.Workspace.{spacious}
+use Rattle.planner.specs.Laws.Questions.{told-ran, told-refused, ran-state, ran-valid, ran-reach, sizes-refused, replay-refused, replay-ran}
 use Rattle.planner.proofs.answer_call.best_response.Statement.{statement}
 use Rattle.planner.proofs.answer_call.best_response.Tie as tie
 

@@ -1,6 +1,6 @@
 -- `planner::answer_call::clear_workspace` meets its contract.
 use borrow.Author.Needs.{needs}
-use Rattle.planner.specs.Laws.Answer.{four-cleared}
+use Rattle.planner.specs.Laws.Workspace.{four-cleared}
 use Rattle.planner.proofs.answer_call.clear_workspace.Statement.{statement}
 use Rattle.planner.proofs.answer_call.clear_workspace.Tie as tie
 

@@ -1,5 +1,5 @@
 -- `planner::answer_call::respond` meets its contract.
-use mathlib.Core.Path.{_≡_, sym, _∙_}
+use mathlib.Core.Path.{sym, _∙_}
 use Prim.Native.Nat.{_≤_}
 use native.Mathlib.Omega.{arith}
 use lib.ListN.{length, take}
@@ -7,7 +7,9 @@ use lib.Seq.{length-take-le}
 use borrow.Author.Needs.{needs}
 use Rattle.planner.specs.Inner.Response.{ResponseEnd}
 use Rattle.planner.specs.Laws.Lent.{part-long}
-use Rattle.planner.specs.Laws.Answer.{end-within, end-from, plan-ready, cleared-same, answer-stage}
+use Rattle.planner.specs.Laws.Answer.{end-within, end-from, plan-ready}
+use Rattle.planner.specs.Laws.Workspace.{cleared-same}
+use Rattle.planner.specs.Laws.Questions.{answer-stage}
 use Rattle.planner.proofs.answer_call.respond.Statement.{statement}
 use Rattle.planner.proofs.answer_call.respond.Tie as tie
 
@@ -69,7 +71,7 @@ returns c p e =
     let x = at .find-response-within in
     let k = x .kept .1 .1 .1 in
     let same = cleared-same (a .states .now) (a .index .now) (a .links .now) (a .rows .now) (x .last .1 .1 .1 .0) (x .last .1 .1 .1 .1 .0)
-        (x .last .1 .1 .1 .1 .1 .0) (x .last .1 .1 .1 .1 .1 .1 .0) (k .0) (k .1 .0) (k .1 .1 .0) (k .1 .1 .1 .0) in
+    (x .last .1 .1 .1 .1 .1 .0) (x .last .1 .1 .1 .1 .1 .1 .0) (k .0) (k .1 .0) (k .1 .1 .0) (k .1 .1 .1 .0) in
     answer-stage _ _ (cleared .clear-workspace .ensures ∙ same) (a .task) p
     (row .answer-row .ensures (a .task) p _ (sym (start at .pre .shortest) ∙ sym (length-take-le _ _ (room at))) (end-from e (searched at)))
 
