@@ -1,6 +1,5 @@
--- `front_test::list_in` is safe and ends: a walk of its MIR, by hand. The first entries of a local array of 3 are lent to `front` and come back, and the array
--- is
--- passed on; all other slices are given up.
+-- `front_test::list_in` is safe and ends: a walk of its MIR, by hand. The first entries of a local array of 3 are lent to `front`
+-- and come back, and the array is passed on; all other slices are given up.
 use mathlib.Core.Path.{_≡_, refl, sym, ap, _∙_}
 use mathlib.Core.List.{[], _∷_, _++_, List}
 use Prim.Native.Nat.{ℕ, _+_, _-_, _^_, _≤_, _<_}

@@ -1,5 +1,5 @@
--- `report_test::report_in` is safe and ends: a walk of its MIR, by hand. A local array of 3 entries is lent to `report` and comes back, and is passed on; all
--- other slices are given up.
+-- `report_test::report_in` is safe and ends: a walk of its MIR, by hand. A local array of 3 entries is lent to `report` and comes
+-- back, and is passed on; all other slices are given up.
 use mathlib.Core.Path.{refl}
 use mathlib.Core.List.{[], _∷_, List}
 use Prim.Native.Nat.{ℕ}
