@@ -3,14 +3,15 @@
 ghost use Prim.Native.Nat.{_≤_};
 use front::Fronted;
 use front::front;
-use pareto::Entry;
-use strips::MAX_FOLLOWER;
+use outcome::Entry;
+use rows::BUCKET_WORDS;
+use rows::LINK_WORDS;
+use rows::WORDS;
 use strips::Task;
 use test_support::action;
 use test_support::bare;
-use test_support::count_bytes;
-use test_support::count_heads;
-use test_support::count_lists;
+use test_support::count_buckets;
+use test_support::count_links;
 use test_support::count_rows;
 use test_support::count_states;
 use test_support::other_entry;
@@ -41,15 +42,9 @@ fn print_three(fronted: Fronted, entries: [Entry; 3]) {
 fn list_in<'w, 'b>(
     task: Task,
     states: &'w mut [u64],
-    keys: &'w mut [u64],
-    links: &'w mut [usize],
-    tree: &'w mut [usize],
-    marks: &'w mut [u8],
-    values: &'w mut [u64],
-    reached: &'w mut [u8],
-    heads: &'w mut [u32],
-    lists: &'b mut [[u32; MAX_FOLLOWER]],
-    picked: &'w mut [usize],
+    index: &'w mut [[u16; BUCKET_WORDS]],
+    links: &'w mut [[u16; LINK_WORDS]],
+    rows: &'b mut [[u64; WORDS]],
     room: usize,
     plans: &'w mut [u8],
 )
@@ -60,15 +55,9 @@ fn list_in<'w, 'b>(
     let fronted = front(
         task,
         states,
-        keys,
+        index,
         links,
-        tree,
-        marks,
-        values,
-        reached,
-        heads,
-        lists,
-        picked,
+        rows,
         &mut entries[..room],
         plans,
     );
@@ -85,72 +74,30 @@ fn print_plans(plans: &[u8]) {
 fn print_places(
     number: u64,
     states: &[u64],
-    keys: &[u64],
-    links: &[usize],
-    tree: &[usize],
-    marks: &[u8],
-    values: &[u64],
-    reached: &[u8],
-    heads: &[u32],
-    lists: &[[u32; MAX_FOLLOWER]],
-    picked: &[usize],
+    index: &[[u16; BUCKET_WORDS]],
+    links: &[[u16; LINK_WORDS]],
+    rows: &[[u64; WORDS]],
 ) {
     print_item(count_states(states, number) as u64);
-    print_item(count_states(keys, number) as u64);
-    print_item(count_rows(links, number) as u64);
-    print_item(count_rows(tree, number) as u64);
-    print_item(count_bytes(marks, number) as u64);
-    print_item(count_states(values, number) as u64);
-    print_item(count_bytes(reached, number) as u64);
-    print_item(count_heads(heads, number) as u64);
-    print_item(count_lists(lists, number) as u64);
-    print_item(count_rows(picked, number) as u64);
+    print_item(count_buckets(index, number) as u64);
+    print_item(count_links(links, number) as u64);
+    print_item(count_rows(rows, number) as u64);
     print(b"\n");
 }
 
 // The plan slice, and how many places of each working slice are clear, or hold 5 as before the call.
 fn print_left(
     states: &[u64],
-    keys: &[u64],
-    links: &[usize],
-    tree: &[usize],
-    marks: &[u8],
-    values: &[u64],
-    reached: &[u8],
-    heads: &[u32],
-    lists: &[[u32; MAX_FOLLOWER]],
-    picked: &[usize],
+    index: &[[u16; BUCKET_WORDS]],
+    links: &[[u16; LINK_WORDS]],
+    rows: &[[u64; WORDS]],
     plans: &[u8],
 ) {
     print_plans(plans);
     print(b"  clear");
-    print_places(
-        0,
-        states,
-        keys,
-        links,
-        tree,
-        marks,
-        values,
-        reached,
-        heads,
-        lists,
-        picked,
-    );
+    print_places(0, states, index, links, rows);
     print(b"  as before");
-    print_places(
-        5,
-        states,
-        keys,
-        links,
-        tree,
-        marks,
-        values,
-        reached,
-        heads,
-        lists,
-        picked,
-    );
+    print_places(5, states, index, links, rows);
 }
 
 // One call, and what it leaves in the lent slices.
@@ -158,15 +105,9 @@ fn list(
     label: &[u8],
     task: Task,
     states: &mut [u64],
-    keys: &mut [u64],
-    links: &mut [usize],
-    tree: &mut [usize],
-    marks: &mut [u8],
-    values: &mut [u64],
-    reached: &mut [u8],
-    heads: &mut [u32],
-    lists: &mut [[u32; MAX_FOLLOWER]],
-    picked: &mut [usize],
+    index: &mut [[u16; BUCKET_WORDS]],
+    links: &mut [[u16; LINK_WORDS]],
+    rows: &mut [[u64; WORDS]],
     room: usize,
     plans: &mut [u8],
 )
@@ -174,62 +115,24 @@ fn list(
 {
     print(label);
     print(b":");
-    list_in(
-        task,
-        states,
-        keys,
-        links,
-        tree,
-        marks,
-        values,
-        reached,
-        heads,
-        lists,
-        picked,
-        room,
-        plans,
-    );
-    print_left(
-        states,
-        keys,
-        links,
-        tree,
-        marks,
-        values,
-        reached,
-        heads,
-        lists,
-        picked,
-        plans,
-    );
+    list_in(task, states, index, links, rows, room, plans);
+    print_left(states, index, links, rows, plans);
 }
 
 // Slices of 7 places and more, which is the reach of document 01's hall, but for one that the caller lends.
-fn tight(label: &[u8], task: Task, picked: &mut [usize], room: usize, plans: &mut [u8])
+fn tight(label: &[u8], task: Task, rows: &mut [[u64; WORDS]], room: usize, plans: &mut [u8])
     requires { ⌜ room ≤ 3 ⌝ }
 {
     let mut states = [5u64; 7];
-    let mut keys = [5u64; 8];
-    let mut links = [5usize; 9];
-    let mut tree = [5usize; 7];
-    let mut marks = [5u8; 7];
-    let mut values = [5u64; 7];
-    let mut reached = [5u8; 7];
-    let mut heads = [5u32; 8];
-    let mut lists = [[5u32; MAX_FOLLOWER]; 7];
+    let mut index = [[5u16; BUCKET_WORDS]; 8];
+    let mut links = [[5u16; LINK_WORDS]; 9];
     list(
         label,
         task,
         &mut states,
-        &mut keys,
+        &mut index,
         &mut links,
-        &mut tree,
-        &mut marks,
-        &mut values,
-        &mut reached,
-        &mut heads,
-        &mut lists,
-        picked,
+        rows,
         room,
         plans,
     );
@@ -239,12 +142,12 @@ fn tight(label: &[u8], task: Task, picked: &mut [usize], room: usize, plans: &mu
 fn list_with(label: &[u8], task: Task, places: usize, entries: usize, numbers: usize)
     requires { ⌜ (places ≤ 7) × (entries ≤ 3) × (numbers ≤ 5) ⌝ }
 {
-    let mut picked = [5usize; 7];
+    let mut rows = [[5u64; WORDS]; 7];
     let mut plans = [99u8; 5];
     tight(
         label,
         task,
-        &mut picked[..places],
+        &mut rows[..places],
         entries,
         &mut plans[..numbers],
     );
@@ -253,28 +156,16 @@ fn list_with(label: &[u8], task: Task, places: usize, entries: usize, numbers: u
 // As many places as the long detour has states, or more.
 fn wide(label: &[u8], task: Task, plans: &mut [u8]) {
     let mut states = [5u64; 64];
-    let mut keys = [5u64; 65];
-    let mut links = [5usize; 66];
-    let mut tree = [5usize; 67];
-    let mut marks = [5u8; 68];
-    let mut values = [5u64; 69];
-    let mut reached = [5u8; 70];
-    let mut heads = [5u32; 71];
-    let mut lists = [[5u32; MAX_FOLLOWER]; 72];
-    let mut picked = [5usize; 73];
+    let mut index = [[5u16; BUCKET_WORDS]; 65];
+    let mut links = [[5u16; LINK_WORDS]; 66];
+    let mut rows = [[5u64; WORDS]; 67];
     list(
         label,
         task,
         &mut states,
-        &mut keys,
+        &mut index,
         &mut links,
-        &mut tree,
-        &mut marks,
-        &mut values,
-        &mut reached,
-        &mut heads,
-        &mut lists,
-        &mut picked,
+        &mut rows,
         3,
         plans,
     );

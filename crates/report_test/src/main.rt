@@ -1,13 +1,19 @@
 // Reports of document 01's worked hall and of tasks with repairs, ties and a cheaper way, in entries, plan slices and texts that
-// are just long enough, longer or too short. Every lent place holds something else before. What it prints is compared with the
-// file stdout.
-use pareto::Entry;
+// are just long enough, longer or too short. Every lent place holds something else before, and what the working places hold after
+// a call is compared with what they should. What it prints is compared with the file stdout.
+use outcome::Entry;
 use report::Reported;
 use report::report;
-use strips::MAX_FOLLOWER;
+use rows::BUCKET_WORDS;
+use rows::LINK_WORDS;
+use rows::WORDS;
 use strips::Task;
 use test_support::action;
 use test_support::bare;
+use test_support::count_buckets;
+use test_support::count_links;
+use test_support::count_rows;
+use test_support::count_states;
 use test_support::other_entry;
 use test_support::print;
 use test_support::print_entry;
@@ -46,68 +52,58 @@ fn print_plans(plans: &[u8]) {
 fn report_in<'w, 'b>(
     task: Task,
     states: &'w mut [u64],
-    keys: &'w mut [u64],
-    links: &'w mut [usize],
-    tree: &'w mut [usize],
-    marks: &'w mut [u8],
-    values: &'w mut [u64],
-    reached: &'w mut [u8],
-    heads: &'w mut [u32],
-    lists: &'b mut [[u32; MAX_FOLLOWER]],
-    picked: &'w mut [usize],
+    index: &'w mut [[u16; BUCKET_WORDS]],
+    links: &'w mut [[u16; LINK_WORDS]],
+    rows: &'b mut [[u64; WORDS]],
     plans: &'w mut [u8],
     text: &'w mut [u8],
 ) {
     let other = other_entry();
     let mut entries = [other; 3];
-    let reported = report(
-        task,
-        states,
-        keys,
-        links,
-        tree,
-        marks,
-        values,
-        reached,
-        heads,
-        lists,
-        picked,
-        &mut entries,
-        plans,
-        text,
-    );
+    let reported = report(task, states, index, links, rows, &mut entries, plans, text);
     print_three(reported, entries);
 }
 
-// One call, and what it leaves in plan slice and text.
-fn lend(label: &[u8], task: Task, plans: &mut [u8], text: &mut [u8]) {
+// Prints how many places of a slice hold what they should, where these are not all.
+fn compare(name: &[u8], same: usize, places: usize) {
+    if same != places {
+        print_field(name, same as u64);
+        print(b"\n");
+    }
+}
+
+// Every working place should hold the number.
+fn compare_places(
+    number: u64,
+    states: &[u64],
+    index: &[[u16; BUCKET_WORDS]],
+    links: &[[u16; LINK_WORDS]],
+    rows: &[[u64; WORDS]],
+) {
+    compare(b"  states", count_states(states, number), states.len());
+    compare(b"  index", count_buckets(index, number), index.len());
+    compare(b"  links", count_links(links, number), links.len());
+    compare(b"  rows", count_rows(rows, number), rows.len());
+}
+
+// One call, and what it leaves in plan slice and text. The working places hold 5 before, and the number `left` after the call.
+fn lend(label: &[u8], task: Task, left: u64, plans: &mut [u8], text: &mut [u8]) {
     let mut states = [5u64; 22];
-    let mut keys = [5u64; 23];
-    let mut links = [5usize; 24];
-    let mut tree = [5usize; 25];
-    let mut marks = [5u8; 26];
-    let mut values = [5u64; 27];
-    let mut reached = [5u8; 28];
-    let mut heads = [5u32; 29];
-    let mut lists = [[5u32; MAX_FOLLOWER]; 30];
-    let mut picked = [5usize; 31];
+    let mut index = [[5u16; BUCKET_WORDS]; 23];
+    let mut links = [[5u16; LINK_WORDS]; 24];
+    let mut rows = [[5u64; WORDS]; 25];
     print(label);
     print(b":");
     report_in(
         task,
         &mut states,
-        &mut keys,
+        &mut index,
         &mut links,
-        &mut tree,
-        &mut marks,
-        &mut values,
-        &mut reached,
-        &mut heads,
-        &mut lists,
-        &mut picked,
+        &mut rows,
         plans,
         text,
     );
+    compare_places(left, &states, &index, &links, &rows);
     print_plans(plans);
     print(text);
     print(b"\n");
@@ -117,31 +113,31 @@ fn lend(label: &[u8], task: Task, plans: &mut [u8], text: &mut [u8]) {
 fn just_enough(label: &[u8], task: Task) {
     let mut plans = [99u8; 5];
     let mut text = [b'.'; 118];
-    lend(label, task, &mut plans, &mut text);
+    lend(label, task, 0, &mut plans, &mut text);
 }
 
 fn short_plans(label: &[u8], task: Task) {
     let mut plans = [99u8; 4];
     let mut text = [b'.'; 118];
-    lend(label, task, &mut plans, &mut text);
+    lend(label, task, 0, &mut plans, &mut text);
 }
 
 fn short_text(label: &[u8], task: Task) {
     let mut plans = [99u8; 5];
     let mut text = [b'.'; 117];
-    lend(label, task, &mut plans, &mut text);
+    lend(label, task, 0, &mut plans, &mut text);
 }
 
-fn short_both(label: &[u8], task: Task) {
+fn short_both(label: &[u8], task: Task, left: u64) {
     let mut plans = [99u8; 4];
     let mut text = [b'.'; 117];
-    lend(label, task, &mut plans, &mut text);
+    lend(label, task, left, &mut plans, &mut text);
 }
 
 fn roomy(label: &[u8], task: Task) {
     let mut plans = [99u8; 8];
     let mut text = [b'.'; 160];
-    lend(label, task, &mut plans, &mut text);
+    lend(label, task, 0, &mut plans, &mut text);
 }
 
 fn floor() {
@@ -149,7 +145,7 @@ fn floor() {
     just_enough(b"the hall", task);
     short_plans(b"4 plan numbers", task);
     short_text(b"117 bytes", task);
-    short_both(b"4 plan numbers, 117 bytes", task);
+    short_both(b"4 plan numbers, 117 bytes", task, 0);
     roomy(b"more of both", task);
 }
 
@@ -175,7 +171,7 @@ fn fewer_lines() {
 fn no_facts() {
     let mut broken = worked();
     broken.facts = 0;
-    short_both(b"no facts, 4 plan numbers, 117 bytes", broken);
+    short_both(b"no facts, 4 plan numbers, 117 bytes", broken, 5);
 }
 
 // Three belts, a repair of all of them that costs nothing, and outages that end in the same state or in the same pair.

@@ -5,8 +5,8 @@ use borrow.Author.Needs.{needs}
 use Rattle.front_test.proofs.list_with.Statement.{statement}
 use Rattle.front_test.proofs.list_with.Tie as tie
 
-array-borrow-prefix-picked : tie.Need-array-borrow-prefix-picked
-array-borrow-prefix-picked c = search needs
+array-borrow-prefix-rows : tie.Need-array-borrow-prefix-rows
+array-borrow-prefix-rows c = search needs
 
 slice-aggregate-tight : tie.Need-slice-aggregate-tight
 slice-aggregate-tight c = sym (length-take-le _ _ (search needs))
@@ -27,7 +27,7 @@ pub list-with-spec : {M : Type 1} → statement M
 list-with-spec =
     tie.close
     (tie.spec
-    array-borrow-prefix-picked
+    array-borrow-prefix-rows
     slice-aggregate-tight
     array-borrow-prefix-plans
     slice-aggregate-tight-2
