@@ -111,12 +111,12 @@ programSizes-are = rw (length-replicate {A = ℕ} places 0, length-replicate pla
 sizes-right : SizesAllowed programSizes
 sizes-right n m = of (rw programSizes-are at m)
   where
-      of : List·Memᴰ n (places ∷ places ∷ places ∷ places ∷ []) → (1 ≤ n) × (n ≤ maxPlaces)
-      of (List·Memᴰ·head e) = (omega (arith, e), omega (arith, e))
-      of (List·Memᴰ·tail (List·Memᴰ·head e)) = (omega (arith, e), omega (arith, e))
-      of (List·Memᴰ·tail (List·Memᴰ·tail (List·Memᴰ·head e))) = (omega (arith, e), omega (arith, e))
-      of (List·Memᴰ·tail (List·Memᴰ·tail (List·Memᴰ·tail (List·Memᴰ·head e)))) = (omega (arith, e), omega (arith, e))
-      of (List·Memᴰ·tail (List·Memᴰ·tail (List·Memᴰ·tail (List·Memᴰ·tail e)))) = absurd (List·Memᴰ·not-nil e)
+    of : List·Memᴰ n (places ∷ places ∷ places ∷ places ∷ []) → (1 ≤ n) × (n ≤ maxPlaces)
+    of (List·Memᴰ·head e) = (omega (arith, e), omega (arith, e))
+    of (List·Memᴰ·tail (List·Memᴰ·head e)) = (omega (arith, e), omega (arith, e))
+    of (List·Memᴰ·tail (List·Memᴰ·tail (List·Memᴰ·head e))) = (omega (arith, e), omega (arith, e))
+    of (List·Memᴰ·tail (List·Memᴰ·tail (List·Memᴰ·tail (List·Memᴰ·head e)))) = (omega (arith, e), omega (arith, e))
+    of (List·Memᴰ·tail (List·Memᴰ·tail (List·Memᴰ·tail (List·Memᴰ·tail e)))) = absurd (List·Memᴰ·not-nil e)
 
 sizes-shortest : shortest programSizes ≡ places
 unfolding shortest
