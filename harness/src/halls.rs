@@ -267,18 +267,33 @@ pub fn any_text(random: &mut Random) -> Vec<u8> {
 /// Tasks with exactly 2^bits reachable states.
 pub struct Family {
     pub name: &'static str,
-    /// The least number of bits.
+    /// The least and the greatest number of bits.
     pub least: usize,
+    pub most: usize,
     pub of: fn(usize) -> Task,
 }
 
-pub const FAMILIES: [Family; 5] = [
-    Family { name: "belts, 7 outages", least: 4, of: seven_belts },
-    Family { name: "repairs", least: 1, of: repairs },
-    Family { name: "long chain of moves", least: 1, of: chain_of_moves },
-    Family { name: "long chain of outages", least: 2, of: chain_of_outages },
-    Family { name: "wide cube", least: 1, of: wide_cube },
+pub const FAMILIES: [Family; 6] = [
+    Family { name: "belts, 7 outages", least: 4, most: 15, of: seven_belts },
+    Family { name: "repairs", least: 1, most: 15, of: repairs },
+    Family { name: "long chain of moves", least: 1, most: 15, of: chain_of_moves },
+    Family { name: "long chain of outages", least: 2, most: 15, of: chain_of_outages },
+    Family { name: "wide cube", least: 1, most: 15, of: wide_cube },
+    Family { name: "a line for each state", least: 1, most: 13, of: doubling_drives },
 ];
+
+/// Drives that cost twice as much to stop and to repair from one to the next: the front has as many lines as there are states.
+fn doubling_drives(bits: usize) -> Task {
+    let stop = |drive: usize| action(1 << (drive - 1), fact(drive), fact(drive), 0);
+    let repair = |drive: usize| action(1 << (drive - 1), 0, 0, fact(drive));
+    Task {
+        facts: bits,
+        initial: facts_to(bits),
+        goal: facts_to(bits),
+        leader: (1..=bits).map(stop).collect(),
+        follower: (1..=bits).map(repair).collect(),
+    }
+}
 
 /// Trays that go by one of three belts of seven, or by hand, and an outage of each belt. From 10 bits on the outages are
 /// free, 128 leader states; below, each needs the one before it, 8 leader states.

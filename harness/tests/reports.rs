@@ -135,7 +135,7 @@ fn families_of_each_size() {
     println!("seed {SEED}");
     let mut random = Random::new(SEED);
     for family in &FAMILIES {
-        for bits in family.least..=15 {
+        for bits in family.least..=family.most {
             let report = compare_around(&mut random, &write(&(family.of)(bits)));
             assert_eq!(report.reach, 1 << bits, "{}", family.name);
         }

@@ -84,7 +84,7 @@ fn growth(before: Option<&Row>, now: &Row, time: fn(&Row) -> Duration) -> String
 
 fn print_family(family: &Family) {
     let mut rows: Vec<Row> = Vec::new();
-    for bits in BITS {
+    for bits in BITS.into_iter().filter(|&bits| bits <= family.most) {
         let text = write(&(family.of)(bits));
         let front = run(&text, &Lent::most()).expect("a family's task fits");
         let lent = Lent::exactly(&front);
@@ -93,7 +93,7 @@ fn print_family(family: &Family) {
         let now = Row { reach: front.reach, exact, other };
         let before = rows.last();
         println!(
-            "| {} | {} | {} | {} | {} | {} | {} | {:.1} | {} | {} | {} |",
+            "| {} | {} | {} | {} | {} | {} | {} | {:.2} | {} | {} | {} |",
             family.name,
             now.reach,
             lent.entries,
