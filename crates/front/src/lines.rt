@@ -1,8 +1,9 @@
 // The search for the front's lines, and questions 13 to 15 about them.
 ghost use Rattle.strips.specs.Task.{Valid};
 ghost use Rattle.questions.specs.Lent.{lent};
+ghost use Rattle.planner.specs.Searches.{Spacious};
 ghost use Rattle.front.specs.FrontCall.{returned};
-ghost use Rattle.front.specs.Inner.Stages.{Spacious, LinesFound, LinesAsked, UsedCleared, LinesListed};
+ghost use Rattle.front.specs.Inner.Stages.{LinesFound, LinesAsked, UsedCleared, LinesListed};
 use crate::Fronted;
 use crate::asked::line_count;
 use front_lines::choose;

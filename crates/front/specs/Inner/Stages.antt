@@ -4,7 +4,6 @@ use mathlib.Core.List.{List, [], _∷_}
 use Prim.Native.Nat.{ℕ, _+_, _≤_}
 use lib.ListN.{length, replicate}
 use Rattle.strips.specs.declared.Task.{Task}
-use Rattle.search.specs.Limits.{maxPlaces}
 use Rattle.search.specs.Reachable.{Fits}
 use Rattle.rows.specs.Cleared.{everywhere, zeros}
 use Rattle.questions.specs.Lent.{Lent}
@@ -14,15 +13,6 @@ use Rattle.pareto.specs.Layout.{plansFor}
 use Rattle.front_lines.specs.Lines.{Chosen}
 use Rattle.front.specs.FrontCall.{frontCall}
 use Rattle.front.specs.Asked.{InRows, RefusedLeft, DoneLeft}
-
--- each working slice has n places at least
-pub record Spacious (n : ℕ) (S : List ℕ) (X L R : List (List ℕ)) : Type 0 where
-  pub some : 1 ≤ n
-  pub small : n ≤ maxPlaces
-  pub states : n ≤ length S
-  pub index : n ≤ length X
-  pub links : n ≤ length L
-  pub rows : n ≤ length R
 
 -- r rows are noted, whose lines are the front; or the states do not fit
 pub data LinesFound (t : Task) (n : ℕ) (R : List (List ℕ)) (r : ℕ) : Type 0 where

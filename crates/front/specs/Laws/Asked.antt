@@ -1,6 +1,6 @@
 -- All questions of the front call in their order.
 use mathlib.Core.Path.{_≡_, refl, _∙_}
-use mathlib.Core.List.{List, [], _∷_, List·Memᴰ·head, List·Memᴰ·tail}
+use mathlib.Core.List.{List, [], _∷_}
 use Prim.Native.Nat.{ℕ, _≤_, _<_}
 use native.Mathlib.Omega.{arith}
 use lib.ListN.{length}
@@ -15,12 +15,13 @@ use Rattle.questions.specs.Record.{recordFault}
 use Rattle.questions.specs.Size.{SizesAllowed, shortest, capacity}
 use Rattle.questions.specs.Call.{Returned, Asks, refused}
 use Rattle.questions.specs.Laws.Record.{record-asked, fault-before-use, fault-place}
-use Rattle.questions.specs.Laws.Size.{capacity-none, capacity-some, shortest-least, shortest-small}
+use Rattle.questions.specs.Laws.Size.{capacity-none, capacity-some}
+use Rattle.planner.specs.Laws.Workspace.{spacious}
 use Rattle.pareto.specs.Front.{Line}
 use Rattle.front.specs.declared.Fronted.the-variants.{Refused}
 use Rattle.front.specs.FrontCall.{frontCall, returned}
 use Rattle.front.specs.Asked.{roomIn, FrontAsked}
-use Rattle.front.specs.Inner.Stages.{Spacious, lines-asks, placesRoom, LinesListed}
+use Rattle.front.specs.Inner.Stages.{lines-asks, placesRoom, LinesListed}
 use Rattle.front.specs.Laws.Stages.{one-size}
 
 -- questions 13 to 15 with other sizes of the same number of places
@@ -49,19 +50,6 @@ module _ (t : Task) (S : List ℕ) (X L R : List (List ℕ)) (n : ℕ) (e : n �
     allowed : SizesAllowed (length S ∷ length X ∷ length L ∷ length R ∷ []) × (n ≡ shortest (length S ∷ length X ∷ length L ∷ length R ∷ []))
     allowed = capacity-some (length S ∷ length X ∷ length L ∷ length R ∷ []) e some
 
-    pub spacious : Spacious n S X L R
-    spacious =
-        let least = shortest-least (length S ∷ length X ∷ length L ∷ length R ∷ []) in
-        let is = allowed .1 in
-        record {
-          some = some;
-          small = omega (arith, is, shortest-small (length S ∷ length X ∷ length L ∷ length R ∷ []));
-          states = omega (arith, is, least (length S) (List·Memᴰ·head refl));
-          index = omega (arith, is, least (length X) (List·Memᴰ·tail (List·Memᴰ·head refl)));
-          links = omega (arith, is, least (length L) (List·Memᴰ·tail (List·Memᴰ·tail (List·Memᴰ·head refl))));
-          rows = omega (arith, is, least (length R) (List·Memᴰ·tail (List·Memᴰ·tail (List·Memᴰ·tail (List·Memᴰ·head refl)))));
-        }
-
     -- the questions about the record
     pub record-refused : (entries numbers : ℕ) (q : Refusal) → numberOf q ≡ recordFault t → placeOf q ≡ 0 → Untouched entries numbers (returned (Refused q))
     record-refused entries numbers q f p =
@@ -78,5 +66,5 @@ module _ (t : Task) (S : List ℕ) (X L R : List (List ℕ)) (n : ℕ) (e : n �
         → FrontAsked t (record { before = S; after = S′ }) (record { before = X; after = X′ }) (record { before = L; after = L′ }) (record { before = R; after = R′ }) entries numbers r
     lines-asked entries numbers z x =
         yes-to {q = 8} (allowed .0)
-        (record-asked (frontCall t) (roomIn S X L R entries numbers) (λ y. other-sizes t n entries numbers S X L R (spacious .small) (allowed .1) x)
+        (record-asked (frontCall t) (roomIn S X L R entries numbers) (λ y. other-sizes t n entries numbers S X L R (spacious S X L R e some .small) (allowed .1) x)
         (λ k g h. absurd (omega (arith, z, g, h))))

@@ -9,18 +9,19 @@ use Rattle.outcome.specs.declared.Entry.{Entry}
 use Rattle.rows.specs.Cleared.{everywhere}
 use Rattle.rows.specs.Laws.Cleared.{everywhere-same}
 use Rattle.questions.specs.Lent.{Lent, over}
-use Rattle.questions.specs.Memory.{Memory, Slice, fourSlices, cleared}
+use Rattle.questions.specs.Memory.{Memory, Slice, fourSlices}
 use Rattle.questions.specs.Call.{Returned, Promise}
 use Rattle.questions.specs.Laws.Asked.{asked-all}
 use Rattle.questions.specs.Laws.Unique.{left, promise-unique}
 use Rattle.pareto.specs.Front.{Line}
 use Rattle.pareto.specs.Layout.{entryFor}
 use Rattle.pareto.specs.Laws.Unique.{front-unique}
+use Rattle.planner.specs.Laws.Workspace.{four-cleared}
 use Rattle.front_lines.specs.Lines.{linesIn}
 use Rattle.front_entries.specs.Entries.{stored, rowsLeft}
 use Rattle.front_entries.specs.Laws.Entries.{stored-is, left-start, left-cleared}
 use Rattle.front.specs.FrontCall.{frontCall, FrontCall}
-use Rattle.front.specs.Asked.{LinesLeft, FrontListed}
+use Rattle.front.specs.Asked.{FrontListed}
 use Rattle.front.specs.Laws.Stages.{some-lines}
 
 -- entries and rows when the entries of n lines are stored
@@ -35,11 +36,6 @@ module _ (es : List Entry) (R₁ : List (List ℕ)) (n : ℕ) {es′ : List Entr
 
   pub rows-cleared : 1 ≤ n → (R : List (List ℕ)) → length R₁ ≡ length R → R′ ≡ everywhere (replicate 8 0) R
   rows-cleared h R size = l ∙ left-cleared R₁ n h ∙ everywhere-same (replicate 8 0) R R₁ size
-
--- all four slices are as the call is to leave them
-pub four-cleared : (S : Lent (List ℕ)) (X L : Lent (List (List ℕ))) (R R₁ R′ : List (List ℕ)) {lines : List Line} → LinesLeft S X L (record { before = R; after = R₁ }) lines
-    → R′ ≡ everywhere (replicate 8 0) R → fourSlices (S .after) (X .after) (L .after) R′ ≡ map cleared (fourSlices (S .before) (X .before) (L .before) R)
-four-cleared S X L R R₁ R′ x r = rw (x .states, x .index, x .links, r) refl
 
 module _ (t : Task) (S : Lent (List ℕ)) (X L : Lent (List (List ℕ))) (R R₁ R′ : List (List ℕ)) (es es′ : List Entry) (plans : Lent (List ℕ)) (r : Returned ℕ) where
   -- what is left in what is lent
@@ -65,7 +61,7 @@ module _ (t : Task) (S : Lent (List ℕ)) (X L : Lent (List (List ℕ))) (R R₁
         found = d .found;
         holds = record {
           returns = y .returns;
-          leaves = four (four-cleared S X L R R₁ R′ (y .left) clear)
+          leaves = four (four-cleared (S .before) (X .before) (L .before) R (y .left .states) (y .left .index) (y .left .links) clear)
               (entries-stored es R₁ (r .values) e l (omega (arith, count, y .entries-fit)) (omega (arith, count, held .listed .inside)) same count) (d .holds .written);
         };
       })

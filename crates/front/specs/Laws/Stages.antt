@@ -19,7 +19,7 @@ use Rattle.questions.specs.Call.{Returned, refused}
 use Rattle.pareto.specs.Front.{Line, Front}
 use Rattle.pareto.specs.Layout.{entryFor, plansFor}
 use Rattle.pareto.specs.Laws.Unique.{not-empty}
-use Rattle.planner.specs.Searches.{Workspace, SearchEnd, rows-found, too-many}
+use Rattle.planner.specs.Searches.{Spacious, Workspace, SearchEnd, rows-found, too-many}
 use Rattle.planner.specs.Solved.{Solved}
 use Rattle.planner.specs.Laws.Within.{solved-whole}
 use Rattle.planner.specs.Reading.{notes}
@@ -27,7 +27,7 @@ use Rattle.planner.specs.Laws.Notes.{notes-length}
 use Rattle.front_lines.specs.Lines.{lineAt, linesIn, Chosen}
 use Rattle.front.specs.FrontCall.{frontCall}
 use Rattle.front.specs.Asked.{RefusedLeft}
-use Rattle.front.specs.Inner.Stages.{Spacious, LinesFound, found, unfit, LinesAsked, UsedCleared, LinesListed}
+use Rattle.front.specs.Inner.Stages.{LinesFound, found, unfit, LinesAsked, UsedCleared, LinesListed}
 
 -- the places of one size
 pub one-size : (n : ℕ) → n ≤ maxPlaces → shortest (n ∷ []) ≡ n

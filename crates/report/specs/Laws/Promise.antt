@@ -14,10 +14,11 @@ use Rattle.questions.specs.Laws.Unique.{left, promise-unique}
 use Rattle.pareto.specs.Front.{Line}
 use Rattle.pareto.specs.Laws.Unique.{front-unique}
 use Rattle.front_lines.specs.Lines.{linesIn, Listed}
+use Rattle.planner.specs.Laws.Workspace.{four-cleared}
 use Rattle.front_entries.specs.Entries.{stored, rowsLeft}
 use Rattle.front.specs.Laws.Stages.{some-lines}
 use Rattle.front.specs.Laws.Listed.{none-listed}
-use Rattle.front.specs.Laws.Promise.{nothing-stored, entries-stored, rows-cleared, four-cleared}
+use Rattle.front.specs.Laws.Promise.{nothing-stored, entries-stored, rows-cleared}
 use Rattle.report.specs.ReportCall.{Counts, textCall, ReportCall, blank, PrintCall}
 use Rattle.report.specs.Asked.{ReportListed}
 
@@ -52,7 +53,7 @@ module _ (t : Task) (S : Lent (List ℕ)) (X L : Lent (List (List ℕ))) (R R₁
         found = d .found;
         holds = record {
           returns = y .returns;
-          leaves = five (four-cleared S X L R R₁ R′ (y .left) clear)
+          leaves = five (four-cleared (S .before) (X .before) (L .before) R (y .left .states) (y .left .index) (y .left .links) clear)
               (entries-stored es R₁ (r .values .entries) e l (omega (arith, count, y .entries-fit)) (omega (arith, count, held .listed .inside)) same count)
               (y .plans-written) (y .text-written);
         };

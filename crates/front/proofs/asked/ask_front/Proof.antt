@@ -4,7 +4,8 @@ use native.Mathlib.Omega.{arith}
 use borrow.Author.Needs.{needs}
 use Rattle.questions.specs.Record.{numberIn, placeIn}
 use Rattle.questions.specs.Laws.Record.{fault-valid}
-use Rattle.front.specs.Laws.Asked.{sizes-refused, spacious, record-refused, lines-asked}
+use Rattle.planner.specs.Laws.Workspace.{spacious}
+use Rattle.front.specs.Laws.Asked.{sizes-refused, record-refused, lines-asked}
 use Rattle.front.proofs.asked.ask_front.Statement.{statement}
 use Rattle.front.proofs.asked.ask_front.Tie as tie
 
@@ -28,7 +29,7 @@ list-lines-requires : tie.Need-list-lines-requires
 list-lines-requires c κs = let start = (c .before .before .before .before .before .before .before .before .before .before) in
     let verdict = (c .before .before .before .before .before .before .record-verdict) .ensures .0 in
     let told = (c .before .before .before .before .enum-told) .given .1 in
-    (fault-valid (start .args .task) (sym (sym (ap numberIn told) ∙ verdict)), spacious (start .args .task) (start .args .states .now) (start .args .index .now) (start .args .links .now) (start .args .rows .now) _ ((c .before .before .before .before .before .before .before .before .places) .ensures) (omega (arith, (c .before .before .before .before .before .before .before .if1 .left))))
+    (fault-valid (start .args .task) (sym (sym (ap numberIn told) ∙ verdict)), spacious (start .args .states .now) (start .args .index .now) (start .args .links .now) (start .args .rows .now) ((c .before .before .before .before .before .before .before .before .places) .ensures) (omega (arith, (c .before .before .before .before .before .before .before .if1 .left))))
 
 returns-2 : tie.Need-returns-2
 returns-2 c = let start = (c .before .before .before .before .before .before .before) in
