@@ -1,5 +1,5 @@
 -- `front::asked::ask_front` meets its contract.
-use mathlib.Core.Path.{refl, sym, ap, _∙_}
+use mathlib.Core.Path.{sym, ap, _∙_}
 use native.Mathlib.Omega.{arith}
 use borrow.Author.Needs.{needs}
 use Rattle.questions.specs.Record.{numberIn, placeIn}
@@ -13,8 +13,10 @@ places-requires : tie.Need-places-requires
 places-requires c κs = search needs
 
 returns : tie.Need-returns
-returns c = let start = (c .before .before .before) in
-    sizes-refused (start .args .task) (start .args .states .now) (start .args .index .now) (start .args .links .now) (start .args .rows .now) _ ((c .before .places) .ensures) _ _ (c .if1 .taken)
+returns c = 
+    let start = c .before .before .before in
+    let size = c .before .places in
+    sizes-refused (start .args .task) (start .args .states .now) (start .args .index .now) (start .args .links .now) (start .args .rows .now) _ (size .ensures) _ _ (c .if1 .taken)
 
 record-verdict-requires : tie.Need-record-verdict-requires
 record-verdict-requires c κs = search needs
@@ -26,16 +28,25 @@ enum-told : tie.Need-enum-told
 enum-told c = search needs
 
 list-lines-requires : tie.Need-list-lines-requires
-list-lines-requires c κs = let start = (c .before .before .before .before .before .before .before .before .before .before) in
-    let verdict = (c .before .before .before .before .before .before .record-verdict) .ensures .0 in
-    let told = (c .before .before .before .before .enum-told) .given .1 in
-    (fault-valid (start .args .task) (sym (sym (ap numberIn told) ∙ verdict)), spacious (start .args .states .now) (start .args .index .now) (start .args .links .now) (start .args .rows .now) ((c .before .before .before .before .before .before .before .before .places) .ensures) (omega (arith, (c .before .before .before .before .before .before .before .if1 .left))))
+list-lines-requires c κs = 
+    let start = c .before .before .before .before .before .before .before .before .before .before in
+    let size = c .before .before .before .before .before .before .before .before .places in
+    let test = c .before .before .before .before .before .before .before .if1 in
+    let verdict = c .before .before .before .before .before .before .record-verdict in
+    let told = c .before .before .before .before .enum-told in
+    let valid = fault-valid (start .args .task) (sym (sym (ap numberIn (told .given .1)) ∙ verdict .ensures .0)) in
+    (valid, spacious (start .args .states .now) (start .args .index .now) (start .args .links .now) (start .args .rows .now) (size .ensures) (omega (arith, test .left)))
 
 returns-2 : tie.Need-returns-2
-returns-2 c = let start = (c .before .before .before .before .before .before .before) in
-    let verdict = (c .before .before .before .record-verdict) .ensures in
-    let told = (c .before .verdict) .given .1 in
-    record-refused (start .args .task) (start .args .states .now) (start .args .index .now) (start .args .links .now) (start .args .rows .now) _ ((c .before .before .before .before .before .places) .ensures) (omega (arith, (c .before .before .before .before .if1 .left))) _ _ ((c .before .verdict) .given .0 .0) (sym (ap numberIn told) ∙ verdict .0) (sym (ap placeIn told) ∙ verdict .1)
+returns-2 c = 
+    let start = c .before .before .before .before .before .before .before in
+    let size = c .before .before .before .before .before .places in
+    let test = c .before .before .before .before .if1 in
+    let verdict = c .before .before .before .record-verdict in
+    let told = c .before .verdict in
+    let number = sym (ap numberIn (told .given .1)) ∙ verdict .ensures .0 in
+    let place = sym (ap placeIn (told .given .1)) ∙ verdict .ensures .1 in
+    record-refused (start .args .task) (start .args .states .now) (start .args .index .now) (start .args .links .now) (start .args .rows .now) _ (size .ensures) (omega (arith, test .left)) _ _ (told .given .0 .0) number place
 
 same-length : tie.Need-same-length
 same-length c = search needs
@@ -50,10 +61,15 @@ same-length-4 : tie.Need-same-length-4
 same-length-4 c = search needs
 
 returns-3 : tie.Need-returns-3
-returns-3 c = let start = (c .before .before .before .before .before .before .before .before .before .before .before .before .before .before .before .before) in
-    let verdict = (c .before .before .before .before .before .before .before .before .before .before .before .before .record-verdict) .ensures .0 in
-    let told = (c .before .before .before .before .before .before .before .before .before .before .enum-told) .given .1 in
-    lines-asked (start .args .task) (start .args .states .now) (start .args .index .now) (start .args .links .now) (start .args .rows .now) _ ((c .before .before .before .before .before .before .before .before .before .before .before .before .before .before .places) .ensures) (omega (arith, (c .before .before .before .before .before .before .before .before .before .before .before .before .before .if1 .left))) _ _ (sym (sym (ap numberIn told) ∙ verdict)) ((c .before .before .before .before .before .list-lines) .ensures)
+returns-3 c = 
+    let start = c .before .before .before .before .before .before .before .before .before .before .before .before .before .before .before .before in
+    let size = c .before .before .before .before .before .before .before .before .before .before .before .before .before .before .places in
+    let test = c .before .before .before .before .before .before .before .before .before .before .before .before .before .if1 in
+    let verdict = c .before .before .before .before .before .before .before .before .before .before .before .before .record-verdict in
+    let told = c .before .before .before .before .before .before .before .before .before .before .enum-told in
+    let call = c .before .before .before .before .before .list-lines in
+    let accepted = sym (sym (ap numberIn (told .given .1)) ∙ verdict .ensures .0) in
+    lines-asked (start .args .task) (start .args .states .now) (start .args .index .now) (start .args .links .now) (start .args .rows .now) _ (size .ensures) (omega (arith, test .left)) _ _ accepted (call .ensures)
 
 pub ask-front-spec : {M : Type 1} → statement M
 ask-front-spec =

@@ -1,5 +1,4 @@
 -- `front::call::list_front` meets its contract.
-use native.Mathlib.Omega.{arith}
 use borrow.Author.Needs.{needs}
 use Rattle.front.specs.Laws.Listed.{listed-lines, front-listed}
 use Rattle.front.proofs.call.list_front.Statement.{statement}
@@ -12,7 +11,10 @@ line-count-requires : tie.Need-line-count-requires
 line-count-requires c κs = search needs
 
 write-plans-requires : tie.Need-write-plans-requires
-write-plans-requires c κs = let x = listed-lines ((c .before .before .before .before .before .before .before .before .ask-front) .ensures) in rw ((c .before .before .line-count) .ensures) x
+write-plans-requires c κs = 
+    let call = c .before .before .before .before .before .before .before .before .ask-front in
+    let count = c .before .before .line-count in
+    rw (count .ensures) (listed-lines (call .ensures))
 
 same-length : tie.Need-same-length
 same-length c = search needs
@@ -30,7 +32,11 @@ same-length-5 : tie.Need-same-length-5
 same-length-5 c = search needs
 
 returns : tie.Need-returns
-returns c = front-listed _ _ ((c .before .before .before .before .before .before .before .before .before .before .before .ask-front) .ensures) (rw (← (c .before .before .before .before .before .line-count) .ensures) ((c .before .before .write-plans) .ensures))
+returns c = 
+    let call = c .before .before .before .before .before .before .before .before .before .before .before .ask-front in
+    let count = c .before .before .before .before .before .line-count in
+    let plans = c .before .before .write-plans in
+    front-listed _ _ (call .ensures) (rw (← count .ensures) (plans .ensures))
 
 pub list-front-spec : {M : Type 1} → statement M
 list-front-spec =

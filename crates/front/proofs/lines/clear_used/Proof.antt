@@ -33,7 +33,20 @@ same-length-4 : tie.Need-same-length-4
 same-length-4 c = search needs
 
 returns : tie.Need-returns
-returns c = record { states = (c .before .before .before .before .before .before .before .before .before .before .before .before .before .clear-numbers) .ensures; index = (c .before .before .before .before .before .before .before .before .before .clear-buckets) .ensures; links = (c .before .before .before .before .before .before .clear-links) .ensures; no-lines = λ z. (c .before .clear-words) .ensures; lines = λ h. absurd (omega (arith, h, (c .before .before .before .before .line-count) .ensures, (c .before .before .before .if1 .taken))) }
+returns c = 
+    let states = c .before .before .before .before .before .before .before .before .before .before .before .before .before .clear-numbers in
+    let index = c .before .before .before .before .before .before .before .before .before .clear-buckets in
+    let links = c .before .before .before .before .before .before .clear-links in
+    let count = c .before .before .before .before .line-count in
+    let test = c .before .before .before .if1 in
+    let rows = c .before .clear-words in
+    record {
+      states = states .ensures;
+      index = index .ensures;
+      links = links .ensures;
+      no-lines = λ z. rows .ensures;
+      lines = λ h. absurd (omega (arith, h, count .ensures, test .taken));
+    }
 
 same-length-5 : tie.Need-same-length-5
 same-length-5 c = search needs
@@ -45,7 +58,19 @@ same-length-7 : tie.Need-same-length-7
 same-length-7 c = search needs
 
 returns-2 : tie.Need-returns-2
-returns-2 c = record { states = (c .before .before .before .before .before .before .before .before .before .before .clear-numbers) .ensures; index = (c .before .before .before .before .before .before .clear-buckets) .ensures; links = (c .before .before .before .clear-links) .ensures; no-lines = λ z. absurd (omega (arith, z, (c .before .line-count) .ensures, (c .if1 .left))); lines = λ h. refl }
+returns-2 c = 
+    let states = c .before .before .before .before .before .before .before .before .before .before .clear-numbers in
+    let index = c .before .before .before .before .before .before .clear-buckets in
+    let links = c .before .before .before .clear-links in
+    let count = c .before .line-count in
+    let test = c .if1 in
+    record {
+      states = states .ensures;
+      index = index .ensures;
+      links = links .ensures;
+      no-lines = λ z. absurd (omega (arith, z, count .ensures, test .left));
+      lines = λ h. refl;
+    }
 
 pub clear-used-spec : {M : Type 1} → statement M
 clear-used-spec =

@@ -23,10 +23,11 @@ same-length-4 : tie.Need-same-length-4
 same-length-4 c = search needs
 
 returns : tie.Need-returns
-returns c = let start = (c .before .before .before .before .before .before .before .before .before .before .before .before .before .before .before .before .before .before .before .before .before) in
-    let search = (c .before .before .before .before .before .before .before .before .before .before .before .before .before .before .before .search-lines) in
-    let clear = (c .before .before .before .before .before .clear-used) in
-    listed-left _ _ _ _ _ _ _ _ _ _ (search .kept .1 .1 .0) (search .kept .1 .1 .1 .0) (search .kept .1 .1 .1 .1 .0) (search .kept .1 .1 .1 .1 .1 .0) (clear .ensures) _ _ _ (search .ensures)
+returns c = 
+    let search = c .before .before .before .before .before .before .before .before .before .before .before .before .before .before .before .search-lines in
+    let clear = c .before .before .before .before .before .clear-used in
+    let sizes = search .kept .1 .1 in
+    listed-left _ _ _ _ _ _ _ _ _ _ (sizes .0) (sizes .1 .0) (sizes .1 .1 .0) (sizes .1 .1 .1 .0) (clear .ensures) _ _ _ (search .ensures)
 
 pub list-lines-spec : {M : Type 1} → statement M
 list-lines-spec =

@@ -22,8 +22,10 @@ same-length-4 : tie.Need-same-length-4
 same-length-4 c = search needs
 
 returns : tie.Need-returns
-returns c = let start = (c .before .before .before .before .before .before .before .before .before .before .before .before) in
-    states-refused _ _ _ _ _ (start .pre .1 .small) _ ((c .before .before .before .before .before .before .find-lines) .ensures) (c .if1 .taken) refl
+returns c = 
+    let start = c .before .before .before .before .before .before .before .before .before .before .before .before in
+    let call = c .before .before .before .before .before .before .find-lines in
+    states-refused _ _ _ _ _ (start .pre .1 .small) _ (call .ensures) (c .if1 .taken) refl
 
 same-length-5 : tie.Need-same-length-5
 same-length-5 c = search needs
@@ -38,13 +40,18 @@ same-length-8 : tie.Need-same-length-8
 same-length-8 c = search needs
 
 returns-2 : tie.Need-returns-2
-returns-2 c = let start = (c .before .before .before .before .before .before .before .before .before .before .before .before .before) in
-    let x = (lines-found ((c .before .before .before .before .before .before .before .find-lines) .ensures) (omega (arith, (c .before .if1 .left)))) in
+returns-2 c = 
+    let start = c .before .before .before .before .before .before .before .before .before .before .before .before .before in
+    let call = c .before .before .before .before .before .before .before .find-lines in
+    let test = c .before .if1 in
+    let x = lines-found (call .ensures) (omega (arith, test .left)) in
     entries-refused _ _ _ _ _ (start .pre .1 .small) _ (x .0) (x .1) (c .if2 .taken) refl
 
 total-steps-requires : tie.Need-total-steps-requires
-total-steps-requires c κs = let start = (c .before .before .before .before .before .before .before .before .before .before .before .before .before .before) in
-    let x = (lines-found ((c .before .before .before .before .before .before .before .before .find-lines) .ensures) (omega (arith, (c .before .before .if1 .left)))) in
+total-steps-requires c κs = 
+    let call = c .before .before .before .before .before .before .before .before .find-lines in
+    let test = c .before .before .if1 in
+    let x = lines-found (call .ensures) (omega (arith, test .left)) in
     x .1 .listed
 
 same-length-9 : tie.Need-same-length-9
@@ -60,9 +67,14 @@ same-length-12 : tie.Need-same-length-12
 same-length-12 c = search needs
 
 returns-3 : tie.Need-returns-3
-returns-3 c = let start = (c .before .before .before .before .before .before .before .before .before .before .before .before .before .before .before .before) in
-    let x = (lines-found ((c .before .before .before .before .before .before .before .before .before .before .find-lines) .ensures) (omega (arith, (c .before .before .before .before .if1 .left)))) in
-    plans-refused _ _ _ _ _ (start .pre .1 .small) _ (x .0) (x .1) (omega (arith, (c .before .before .before .if2 .left))) (omega (arith, c .if3 .taken, (c .before .total-steps) .ensures)) refl
+returns-3 c = 
+    let start = c .before .before .before .before .before .before .before .before .before .before .before .before .before .before .before .before in
+    let call = c .before .before .before .before .before .before .before .before .before .before .find-lines in
+    let test = c .before .before .before .before .if1 in
+    let entries = c .before .before .before .if2 in
+    let total = c .before .total-steps in
+    let x = lines-found (call .ensures) (omega (arith, test .left)) in
+    plans-refused _ _ _ _ _ (start .pre .1 .small) _ (x .0) (x .1) (omega (arith, entries .left)) (omega (arith, c .if3 .taken, total .ensures)) refl
 
 same-length-13 : tie.Need-same-length-13
 same-length-13 c = search needs
@@ -77,9 +89,14 @@ same-length-16 : tie.Need-same-length-16
 same-length-16 c = search needs
 
 returns-4 : tie.Need-returns-4
-returns-4 c = let start = (c .before .before .before .before .before .before .before .before .before .before .before .before .before .before .before .before) in
-    let x = (lines-found ((c .before .before .before .before .before .before .before .before .before .before .find-lines) .ensures) (omega (arith, (c .before .before .before .before .if1 .left)))) in
-    lines-done _ _ _ _ _ (start .pre .1 .small) _ (x .0) (x .1) (omega (arith, (c .before .before .before .if2 .left))) (omega (arith, c .if3 .left, (c .before .total-steps) .ensures)) refl
+returns-4 c = 
+    let start = c .before .before .before .before .before .before .before .before .before .before .before .before .before .before .before .before in
+    let call = c .before .before .before .before .before .before .before .before .before .before .find-lines in
+    let test = c .before .before .before .before .if1 in
+    let entries = c .before .before .before .if2 in
+    let total = c .before .total-steps in
+    let x = lines-found (call .ensures) (omega (arith, test .left)) in
+    lines-done _ _ _ _ _ (start .pre .1 .small) _ (x .0) (x .1) (omega (arith, entries .left)) (omega (arith, c .if3 .left, total .ensures)) refl
 
 pub search-lines-spec : {M : Type 1} → statement M
 search-lines-spec =
