@@ -2,3 +2,4 @@
 pub mod Columns
 pub mod Cleared
 pub mod Words
+pub mod Linked

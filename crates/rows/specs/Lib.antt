@@ -2,4 +2,5 @@
 pub mod Columns
 pub mod Cleared
 pub mod Words
+pub mod Linked
 pub mod Laws

@@ -11,6 +11,7 @@ pub use buckets::put_bucket;
 pub use links::LINK_WORDS;
 pub use links::clear_links;
 pub use links::get_link;
+pub use links::list_links;
 pub use links::put_link;
 pub use numbers::clear_numbers;
 pub use words::HEAP;
