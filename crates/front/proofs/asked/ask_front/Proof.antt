@@ -13,7 +13,7 @@ places-requires : tie.Need-places-requires
 places-requires c κs = search needs
 
 returns : tie.Need-returns
-returns c = 
+returns c =
     let start = c .before .before .before in
     let size = c .before .places in
     sizes-refused (start .args .task) (start .args .states .now) (start .args .index .now) (start .args .links .now) (start .args .rows .now) _ (size .ensures) _ _ (c .if1 .taken)
@@ -28,7 +28,7 @@ enum-told : tie.Need-enum-told
 enum-told c = search needs
 
 list-lines-requires : tie.Need-list-lines-requires
-list-lines-requires c κs = 
+list-lines-requires c κs =
     let start = c .before .before .before .before .before .before .before .before .before .before in
     let size = c .before .before .before .before .before .before .before .before .places in
     let test = c .before .before .before .before .before .before .before .if1 in
@@ -38,7 +38,7 @@ list-lines-requires c κs =
     (valid, spacious (start .args .states .now) (start .args .index .now) (start .args .links .now) (start .args .rows .now) (size .ensures) (omega (arith, test .left)))
 
 returns-2 : tie.Need-returns-2
-returns-2 c = 
+returns-2 c =
     let start = c .before .before .before .before .before .before .before in
     let size = c .before .before .before .before .before .places in
     let test = c .before .before .before .before .if1 in
@@ -61,7 +61,7 @@ same-length-4 : tie.Need-same-length-4
 same-length-4 c = search needs
 
 returns-3 : tie.Need-returns-3
-returns-3 c = 
+returns-3 c =
     let start = c .before .before .before .before .before .before .before .before .before .before .before .before .before .before .before .before in
     let size = c .before .before .before .before .before .before .before .before .before .before .before .before .before .before .places in
     let test = c .before .before .before .before .before .before .before .before .before .before .before .before .before .if1 in

@@ -11,7 +11,7 @@ line-count-requires : tie.Need-line-count-requires
 line-count-requires c κs = search needs
 
 write-plans-requires : tie.Need-write-plans-requires
-write-plans-requires c κs = 
+write-plans-requires c κs =
     let call = c .before .before .before .before .before .before .before .before .ask-front in
     let count = c .before .before .line-count in
     rw (count .ensures) (listed-lines (call .ensures))
@@ -32,7 +32,7 @@ same-length-5 : tie.Need-same-length-5
 same-length-5 c = search needs
 
 returns : tie.Need-returns
-returns c = 
+returns c =
     let call = c .before .before .before .before .before .before .before .before .before .before .before .ask-front in
     let count = c .before .before .before .before .before .line-count in
     let plans = c .before .before .write-plans in

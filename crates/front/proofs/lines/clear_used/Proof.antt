@@ -33,7 +33,7 @@ same-length-4 : tie.Need-same-length-4
 same-length-4 c = search needs
 
 returns : tie.Need-returns
-returns c = 
+returns c =
     let states = c .before .before .before .before .before .before .before .before .before .before .before .before .before .clear-numbers in
     let index = c .before .before .before .before .before .before .before .before .before .clear-buckets in
     let links = c .before .before .before .before .before .before .clear-links in
@@ -58,7 +58,7 @@ same-length-7 : tie.Need-same-length-7
 same-length-7 c = search needs
 
 returns-2 : tie.Need-returns-2
-returns-2 c = 
+returns-2 c =
     let states = c .before .before .before .before .before .before .before .before .before .before .clear-numbers in
     let index = c .before .before .before .before .before .before .clear-buckets in
     let links = c .before .before .before .clear-links in

@@ -28,7 +28,7 @@ slice-relend-prefix-solve : tie.Need-slice-relend-prefix-solve
 slice-relend-prefix-solve c = search needs
 
 slice-aggregate-solve : tie.Need-slice-aggregate-solve
-slice-aggregate-solve c = 
+slice-aggregate-solve c =
     let start = c .before .before in
     sym (length-take-le _ _ (start .pre .1 .states))
 
@@ -36,7 +36,7 @@ slice-relend-prefix-solve-2 : tie.Need-slice-relend-prefix-solve-2
 slice-relend-prefix-solve-2 c = search needs
 
 slice-aggregate-solve-2 : tie.Need-slice-aggregate-solve-2
-slice-aggregate-solve-2 c = 
+slice-aggregate-solve-2 c =
     let start = c .before .before .before in
     sym (length-take-le _ _ (start .pre .1 .index))
 
@@ -44,7 +44,7 @@ slice-relend-prefix-solve-3 : tie.Need-slice-relend-prefix-solve-3
 slice-relend-prefix-solve-3 c = search needs
 
 slice-aggregate-solve-3 : tie.Need-slice-aggregate-solve-3
-slice-aggregate-solve-3 c = 
+slice-aggregate-solve-3 c =
     let start = c .before .before .before .before in
     sym (length-take-le _ _ (start .pre .1 .links))
 
@@ -52,12 +52,12 @@ slice-relend-prefix-solve-4 : tie.Need-slice-relend-prefix-solve-4
 slice-relend-prefix-solve-4 c = search needs
 
 slice-aggregate-solve-4 : tie.Need-slice-aggregate-solve-4
-slice-aggregate-solve-4 c = 
+slice-aggregate-solve-4 c =
     let start = c .before .before .before .before .before in
     sym (length-take-le _ _ (start .pre .1 .rows))
 
 solve-requires : tie.Need-solve-requires
-solve-requires c κs = 
+solve-requires c κs =
     let start = c .before .before .before .before .before in
     (start .pre .0, workspace-part (start .pre .1))
 
@@ -74,13 +74,13 @@ same-length-4 : tie.Need-same-length-4
 same-length-4 c = search needs
 
 returns : tie.Need-returns
-returns c = 
+returns c =
     let start = c .before .before .before .before .before .before .before .before .before .before .before .before in
     let call = c .before .before .before .before .before .before .solve in
     not-found (start .pre .1) _ (call .kept .1 .1 .1 .1 .0) (call .ensures) (c .if1 .taken)
 
 choose-requires : tie.Need-choose-requires
-choose-requires c κs = 
+choose-requires c κs =
     let start = c .before .before .before .before .before .before .before .before .before .before .before .before .before in
     (start .args .task, found-rows c .1)
 
@@ -97,7 +97,7 @@ same-length-8 : tie.Need-same-length-8
 same-length-8 c = search needs
 
 returns-2 : tie.Need-returns-2
-returns-2 c = 
+returns-2 c =
     let call = c .before .choose in
     let rows = found-rows (c .before .before) in
     lines-chosen (rows .0) (omega (arith, call .ensures .1, c .before .before .before .if1 .left)) (call .ensures .2 _ (rows .1))

@@ -23,7 +23,7 @@ same-length-4 : tie.Need-same-length-4
 same-length-4 c = search needs
 
 returns : tie.Need-returns
-returns c = 
+returns c =
     let search = c .before .before .before .before .before .before .before .before .before .before .before .before .before .before .before .search-lines in
     let clear = c .before .before .before .before .before .clear-used in
     let sizes = search .kept .1 .1 in

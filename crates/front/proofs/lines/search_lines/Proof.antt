@@ -22,7 +22,7 @@ same-length-4 : tie.Need-same-length-4
 same-length-4 c = search needs
 
 returns : tie.Need-returns
-returns c = 
+returns c =
     let start = c .before .before .before .before .before .before .before .before .before .before .before .before in
     let call = c .before .before .before .before .before .before .find-lines in
     states-refused _ _ _ _ _ (start .pre .1 .small) _ (call .ensures) (c .if1 .taken) refl
@@ -40,7 +40,7 @@ same-length-8 : tie.Need-same-length-8
 same-length-8 c = search needs
 
 returns-2 : tie.Need-returns-2
-returns-2 c = 
+returns-2 c =
     let start = c .before .before .before .before .before .before .before .before .before .before .before .before .before in
     let call = c .before .before .before .before .before .before .before .find-lines in
     let test = c .before .if1 in
@@ -48,7 +48,7 @@ returns-2 c =
     entries-refused _ _ _ _ _ (start .pre .1 .small) _ (x .0) (x .1) (c .if2 .taken) refl
 
 total-steps-requires : tie.Need-total-steps-requires
-total-steps-requires c κs = 
+total-steps-requires c κs =
     let call = c .before .before .before .before .before .before .before .before .find-lines in
     let test = c .before .before .if1 in
     let x = lines-found (call .ensures) (omega (arith, test .left)) in
@@ -67,7 +67,7 @@ same-length-12 : tie.Need-same-length-12
 same-length-12 c = search needs
 
 returns-3 : tie.Need-returns-3
-returns-3 c = 
+returns-3 c =
     let start = c .before .before .before .before .before .before .before .before .before .before .before .before .before .before .before .before in
     let call = c .before .before .before .before .before .before .before .before .before .before .find-lines in
     let test = c .before .before .before .before .if1 in
@@ -89,7 +89,7 @@ same-length-16 : tie.Need-same-length-16
 same-length-16 c = search needs
 
 returns-4 : tie.Need-returns-4
-returns-4 c = 
+returns-4 c =
     let start = c .before .before .before .before .before .before .before .before .before .before .before .before .before .before .before .before in
     let call = c .before .before .before .before .before .before .before .before .before .before .find-lines in
     let test = c .before .before .before .before .if1 in
