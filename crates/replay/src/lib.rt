@@ -1,11 +1,13 @@
 // The replay of a leader plan and then a follower plan.
+#![tactic(auto)]
+
 mod running;
 
 use outcome::{Minutes, Price, Refusal};
 pub use running::replay;
 
 // A leader plan and then a follower plan, run from the initial state.
-#[derive(Drop)]
+#[derive(Clone, Copy)]
 pub struct Ended {
     pub price: Price,
     pub minutes: Minutes,
@@ -13,7 +15,7 @@ pub struct Ended {
     pub goal: bool,
 }
 
-#[derive(Drop)]
+#[derive(Clone, Copy)]
 pub enum Replayed {
     Ran(Ended),
     Refused(Refusal),

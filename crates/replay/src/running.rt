@@ -27,14 +27,14 @@ fn known_steps(plan: &[u8], count: usize) -> usize
 }
 
 // Whose plan is run: the leader's costs a price, the follower's minutes.
-#[derive(Drop)]
+#[derive(Clone, Copy)]
 pub enum Player {
     Leader,
     Follower,
 }
 
 // How far a plan has been run: how many steps, to which state, at what price or in how many minutes.
-#[derive(Drop)]
+#[derive(Clone, Copy)]
 pub struct Progress {
     pub steps: usize,
     pub state: u64,

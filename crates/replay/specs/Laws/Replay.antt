@@ -1,6 +1,6 @@
 -- What a replay returns, case by case; and that it ran just where both plans run.
 use Rattle.std.specs.Prelude.{◌≡◌, List, ℕ, ◌+◌, ◌≤◌, ◌<◌, length}
-use Rattle.std.proofs.Common.{sym, ap, ◌∙◌, arith}
+use Rattle.std.proofs.Common.{ap, ◌∙◌, arith}
 use Rattle.std.proofs.Math.Decide.{ℕ_discrete, dec_le, dec_lt}
 use Rattle.strips.specs.Decision.{says}
 use Rattle.strips.specs.Limits.{max_steps}
@@ -12,11 +12,8 @@ use Rattle.strips.specs.Deciders.{dec_valid}
 use Rattle.strips.specs.Laws.Padding.{padded_used, leader_count, follower_count}
 use Rattle.strips.specs.declared.Task.{Task}
 use Rattle.replay.specs.Replay.{Returned, refused, ran, known_steps, applied_steps, end_state, ask_steps, replayed}
-use Rattle.replay.specs.Run.{Runnable, Stopped, Numbered}
+use Rattle.replay.specs.Run.{Runnable, Numbered}
 use Rattle.replay.specs.Laws.Steps.{known_most, applied_most, passes_runs, runs_known, runs_applied, runs_end}
-use Rattle.replay.specs.Laws.Running.{Ended, stopped_ended}
-use Rattle.replay.specs.declared.running.Player.TheVariants.{Leader, Follower}
-use Rattle.replay.specs.declared.running.Progress.{Progress}
 
 pub leader_runnable : {t : Task} {p q : List ℕ} → Numbered t p q → Runnable (padded t.leader) t.leader_count p
 leader_runnable {t} n =
@@ -42,10 +39,10 @@ module _ (n earlier : ℕ) (p : List ℕ) (passed : ℕ) (rest : Returned) where
   steps_stop h = asked_no (ℕ_discrete passed (length p)) (λ e. omega arith) _ _
 
 module _ (t : Task) (p q : List ℕ) where
-  abbrev middle : ℕ
+  abbrev pub middle : ℕ
   middle = end_state (leader_actions t) t.initial p
 
-  abbrev end : ℕ
+  abbrev pub end : ℕ
   end = end_state (follower_actions t) middle q
 
   -- what is left of a replay from question 12 on, and from question 11 on
@@ -99,27 +96,6 @@ module _ (t : Task) (p q : List ℕ) where
   pub both_run : Numbered t p q → applied_steps (leader_actions t) t.initial p ≡ length p → applied_steps (follower_actions t) middle q ≡ length q
       → replayed t p q ≡ ran (cost (leader_actions t) p) (cost (follower_actions t) q) end (says (dec_holds end t.goal))
   both_run n e f = asks_12 n ∙ steps_pass 12 0 p _ _ e ∙ steps_pass 12 (length p) q _ _ f
-
-  -- the same, as the code finds it: where running each plan stopped
-  module _ (n : Numbered t p q) (r : Progress) (d : Stopped Leader (leader_actions t) t.initial p r) where
-    pub stops_leader : r.steps < length p → refused 12 (r.steps + 1) ≡ replayed t p q
-    stops_leader h = sym (refuses_12_leader n (rw (← d.steps) h) ∙ ap (λ k. refused 12 (k + 1)) (sym d.steps))
-
-    module _ (h : length p ≤ r.steps) (u : Progress) (e : Stopped Follower (follower_actions t) r.state q u) where
-      leader_ended : Ended Leader (leader_actions t) t.initial p r
-      leader_ended = stopped_ended (leader_actions t) t.initial p r d h
-
-      follower_stopped : Stopped Follower (follower_actions t) middle q u
-      follower_stopped = rw leader_ended.state at e
-
-      pub stops_follower : u.steps < length q → refused 12 (length p + u.steps + 1) ≡ replayed t p q
-      stops_follower l =
-          sym (refuses_12_follower n leader_ended.steps (rw (← follower_stopped.steps) l) ∙ ap (λ k. refused 12 (length p + k + 1)) (sym follower_stopped.steps))
-
-      pub ends_both : length q ≤ u.steps → ran r.price.0 u.minutes.0 u.state (says (dec_holds u.state t.goal)) ≡ replayed t p q
-      ends_both l =
-          let f = stopped_ended (follower_actions t) middle q u follower_stopped l in
-          rw (leader_ended.cost, f.cost, f.state) (sym (both_run n leader_ended.steps f.steps))
 
   -- plans that run are replayed to their end
   pub runs_replayed : {m e : ℕ} → Valid t → length p ≤ max_steps → length q ≤ max_steps → Runs (leader_actions t) t.initial p m → Runs (follower_actions t) m q e

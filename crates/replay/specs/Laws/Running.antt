@@ -1,6 +1,6 @@
--- A plan run step by step: from its start, over a step that applies, to a stop.
+-- A plan run step by step: from its start, and over a step that applies.
 use Rattle.std.specs.Prelude.{◌≡◌, refl, List, ℕ, ◌+◌, ◌-◌, ◌*◌, ◌≤◌, ◌<◌, min, length, get_or, take, drop}
-use Rattle.std.proofs.Common.{sym, ap, ◌∙◌, arith, take_all}
+use Rattle.std.proofs.Common.{sym, ap, ◌∙◌, arith}
 use Rattle.strips.specs.Limits.{max_follower, max_cost, max_steps}
 use Rattle.strips.specs.State.{Applies, after}
 use Rattle.strips.specs.Task.{idle}
@@ -8,8 +8,8 @@ use Rattle.strips.specs.Plan.{Known, action, cost}
 use Rattle.strips.specs.declared.Action.{Action}
 use Rattle.outcome.specs.Limits.{max_number}
 use Rattle.replay.specs.Replay.{applied_steps, end_state}
-use Rattle.replay.specs.Run.{Runnable, cost_of, Advanced, Running, Stopped}
-use Rattle.replay.specs.Laws.Steps.{action_take, known_each, applied_most, applied_more, applied_no_more, applied_end, end_more, cost_more}
+use Rattle.replay.specs.Run.{Runnable, cost_of, Advanced, Running}
+use Rattle.replay.specs.Laws.Steps.{action_take, known_each, applied_more, end_more, cost_more}
 use Rattle.replay.specs.declared.running.Player.{Player}
 use Rattle.replay.specs.declared.running.Player.TheVariants.{Leader, Follower}
 use Rattle.replay.specs.declared.running.Progress.{Progress}
@@ -29,13 +29,6 @@ running_start w acts s p = record { within = omega arith; ahead = omega arith; s
     free : (w : Player) → cost_of w (none_run s) ≡ 0
     free Leader = refl
     free Follower = refl
-
-module _ {w : Player} {acts : List Action} {s : ℕ} {p : List ℕ} {r : Progress} (so_far : Running w acts s p r) where
-  running_stuck : applied_steps acts r.state (drop r.steps p) ≡ 0 → Stopped w acts s p r
-  running_stuck e = record { steps = omega arith; state = so_far.state; cost = so_far.sum }
-
-  pub running_ends : length p ≤ r.steps → Stopped w acts s p r
-  running_ends h = let all : r.steps ≡ length p = omega arith in running_stuck (rw all (applied_end acts r.state p))
 
 -- at a step of a plan that the first n places run
 module _ {places : List Action} {n : ℕ} {p : List ℕ} (ok : Runnable places n p) where
@@ -62,9 +55,6 @@ module _ {places : List Action} {n : ℕ} {p : List ℕ} (ok : Runnable places n
     is_a : action acts (get_or p i 0) ≡ a
     is_a = action_take places n (get_or p i 0) (known h)
 
-    pub running_stops : (Applies a t → ⊥) → Stopped w acts s p r
-    running_stops f = running_stuck so_far (applied_no_more acts t p i h (λ d. f (rw is_a at d)))
-
     pub running_more : {u : Progress} → Applies a t → Advanced w a r u → Running w acts s p u
     running_more {u} d to = record {
       within = omega arith;
@@ -82,18 +72,3 @@ module _ {places : List Action} {n : ℕ} {p : List ℕ} (ok : Runnable places n
 
         added : cost_of w u ≡ cost_of w r + a.cost
         added = to.cost ∙ plain_sum i (cost_of w r) a.cost (omega arith) so_far.low cheap
-
--- a plan that was run to its end
-pub record Ended (w : Player) (acts : List Action) (s : ℕ) (p : List ℕ) (r : Progress) : Type 0 where
-  pub steps : applied_steps acts s p ≡ length p
-  pub state : r.state ≡ end_state acts s p
-  pub cost : cost_of w r ≡ cost acts p
-
-pub stopped_ended : {w : Player} (acts : List Action) (s : ℕ) (p : List ℕ) (r : Progress) → Stopped w acts s p r → length p ≤ r.steps → Ended w acts s p r
-stopped_ended acts s p r d h =
-    let whole : take r.steps p ≡ p = take_all r.steps p h in
-    record {
-      steps = omega (arith, d.steps, applied_most acts s p);
-      state = d.state ∙ ap (end_state acts s) whole;
-      cost = d.cost ∙ ap (cost acts) whole;
-    }
