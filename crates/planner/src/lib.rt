@@ -1,4 +1,6 @@
 // The best response to a leader plan, `best_response`. All else is not for outsiders: the searches of a task, and what the rows say after them.
+#![tactic(auto)]
+
 mod answer_call;
 mod goal;
 mod reading;
@@ -15,7 +17,7 @@ pub use reading::{
 pub use searches::solve;
 
 // The answer and the number of steps of its plan, or the first question that gets no.
-#[derive(Drop)]
+#[derive(Clone, Copy)]
 pub enum Answered {
     Found(Answer, usize),
     Refused(Refusal),

@@ -1,6 +1,6 @@
 -- What every public call promises: what each question asks, and what is returned and left.
 use Rattle.std.specs.Prelude.{◌≡◌, List, ℕ, ◌+◌, ◌≤◌, eqb, length}
-use Rattle.std.proofs.Math.Logic.{Dec.and}
+use Rattle.std.proofs.Math.Logic.Dec
 use Rattle.std.proofs.Math.Decide.{ℕ_discrete, dec_le}
 use Rattle.strips.specs.Limits.{max_steps}
 use Rattle.strips.specs.Task.{leader_actions, follower_actions}

@@ -1,5 +1,5 @@
 -- Question 8, about the places of the working slices.
-use Rattle.std.proofs.Math.Logic.{Dec.and}
+use Rattle.std.proofs.Math.Logic.Dec
 use mathlib.Core.List.{List, [], ◌∷◌, Memᴰ}
 use Rattle.std.specs.Prelude.{ℕ, ◌≤◌, min}
 use Rattle.std.proofs.Math.Decide.{dec_le}

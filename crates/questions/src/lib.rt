@@ -1,4 +1,6 @@
 // Not for outsiders. The questions that calls have in common: about the record, and about the places of the working slices.
+#![tactic(auto)]
+
 ghost use Rattle.std.specs.Prelude.{◌≡◌, List, [], ◌∷◌, ℕ};
 ghost use Rattle.questions.specs.Record.{record_fault, number_in, place_in};
 ghost use Rattle.questions.specs.Size.{capacity};

@@ -1,4 +1,6 @@
 // Not for outsiders. The search from the goal back: for every row at once the least key of a plan to the goal, and its first step.
+#![tactic(auto)]
+
 mod goals;
 mod values;
 

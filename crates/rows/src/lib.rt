@@ -1,4 +1,6 @@
 // Not for outsiders. Slices of rows of words: words read and stored, rows cleared. Word c of every row is column c.
+#![tactic(auto)]
+
 mod buckets;
 mod links;
 mod numbers;

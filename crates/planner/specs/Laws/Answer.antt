@@ -4,7 +4,7 @@ use Rattle.std.proofs.Common.{sym, ap, subst, ◌∙◌, arith, length-take-le}
 use Rattle.strips.specs.Task.{leader_actions}
 use Rattle.strips.specs.declared.Task.{Task}
 use Rattle.outcome.specs.Answer.{Value, minutes, none}
-use Rattle.replay.specs.Replay.{refused, end_state}
+use Rattle.replay.specs.Replay.{end_state}
 use Rattle.search.specs.Limits.{key_base}
 use Rattle.search.specs.Reachable.{Fits}
 use Rattle.search.specs.Response.{Response}
@@ -14,7 +14,6 @@ use Rattle.least_plans.specs.Found.{keys_in, links_in}
 use Rattle.least_plans.specs.Laws.Links.{length_back}
 use Rattle.questions.specs.Lent.{over}
 use Rattle.questions.specs.Size.{shortest}
-use Rattle.questions.specs.Memory.{places}
 use Rattle.questions.specs.Asked.{no_to, yes_to, answered}
 use Rattle.planner.specs.AnswerCall.{AnswerPlan}
 use Rattle.planner.specs.Inner.Response.{PlanRow, RowResponse, no_response, response_row, ResponseEnd}

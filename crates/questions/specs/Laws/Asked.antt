@@ -48,10 +48,13 @@ asked_either f g (yes_to y a) = asked_either f g a
 asked_either f g (answered d) = g d
 
 -- a stage that asks the first questions, and then one that asks the others
+then_others : {Question : (Type 0 → Type 0) → ℕ → Type 0} {Refused : ℕ → Type 0} {Done : Type 0} {qs ps : List ℕ} → Asked Question Refused (Asked Question Refused Done qs) ps → Asked Question Refused Done (ps ++ qs)
+then_others (no_to a r) = no_to a r
+then_others (yes_to y a) = yes_to y (then_others a)
+then_others (answered d) = d
+
 pub asked_then : {Question : (Type 0 → Type 0) → ℕ → Type 0} {Refused : ℕ → Type 0} {Done : Type 0} {ps qs : List ℕ} → Asked Question Refused (Asked Question Refused Done qs) ps → Asked Question Refused Done (ps ++ qs)
-asked_then (no_to a r) = no_to a r
-asked_then (yes_to y a) = yes_to y (asked_then a)
-asked_then (answered d) = d
+asked_then = then_others
 
 -- a line of a table of questions is not answered by yes and by no
 pub chosen_one : (b : Bool) {A A' B B' : Type 0} → (A → A' → ⊥) → (B → B' → ⊥) → chosen b A B → chosen b A' B' → ⊥
