@@ -1,7 +1,7 @@
 -- Each question about a value has a yes or a no. All of it computes, so that examples can be worked out.
 use Rattle.std.specs.Prelude.{◌≡◌, refl, Bool, true, false, List, [], ◌∷◌, ◌⊎◌, ℕ, suc, ◌+◌, ◌≤◌, eqb, leb, length, get_or}
 use Rattle.std.proofs.Common.{inl, inr, ⊎_elim, arith, eqb-true, leb-true, leb-false}
-use Rattle.std.proofs.Math.Logic.{Dec.and}
+use Rattle.std.proofs.Math.Logic.Dec
 use Rattle.std.proofs.lemmas.Bool.{eqb-false}
 use Rattle.strips.specs.Decision.{dec_when, dec_equivalent}
 use Rattle.task_format.specs.Limits.{max_digits}

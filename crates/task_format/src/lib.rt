@@ -1,4 +1,6 @@
 // Not for outsiders. The hall file: its limits, the kinds of values, and which kind each line has. What a file says is defined in specs/.
+#![tactic(auto)]
+
 ghost use Rattle.std.specs.Prelude.{◌≡◌};
 ghost use Rattle.task_format.specs.Lines.{kind_of, last_line, Few};
 
@@ -10,7 +12,7 @@ pub const MAX_TEXT: usize = 28_672;
 pub const MAX_DIGITS: u32 = 5;
 
 // A number between two bounds, or a list of facts of which the last is given.
-#[derive(Drop)]
+#[derive(Clone, Copy)]
 pub enum Kind {
     Number(u32, u32),
     FactList(u32),

@@ -1,4 +1,6 @@
 // Reads a hall file: questions 1 to 7 of a text, and the task that it says.
+#![tactic(auto)]
+
 mod fields;
 mod keys;
 mod line;
@@ -16,7 +18,7 @@ use strips::Task;
 use task_format::MAX_TEXT;
 
 // The task that a text says; where it is refused, the record of zeros.
-#[derive(Drop)]
+#[derive(Clone, Copy)]
 pub struct Reading {
     pub verdict: Verdict,
     pub task: Task,

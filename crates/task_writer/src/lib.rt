@@ -1,4 +1,6 @@
 // Writes a hall file: questions 9 and 16, and the text of a task.
+#![tactic(auto)]
+
 mod fields;
 mod keys;
 mod lines;
@@ -14,7 +16,7 @@ use task_format::MAX_TEXT;
 use text_output::put_bytes;
 
 // How many bytes were written, or the question that got no.
-#[derive(Drop)]
+#[derive(Clone, Copy)]
 pub enum Written {
     Bytes(usize),
     Refused(Refusal),

@@ -1,4 +1,6 @@
 // Not for outsiders. Bytes put into a lent slice, one run behind the other. Each function returns the place behind what it put.
+#![tactic(auto)]
+
 ghost use Rattle.std.specs.Prelude.{◌+◌, ◌^◌, ◌≤◌, ◌<◌, length};
 ghost use Rattle.task_format.specs.Render.{digits_of};
 ghost use Rattle.text_output.specs.Puts.{number_digits, Puts};

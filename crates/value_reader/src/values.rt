@@ -11,7 +11,7 @@ use task_format::{Kind, MAX_DIGITS};
 
 // What the bytes read so far amount to. Of the number that is being read: its value and how many digits it has.
 // Of the members before it: the last, their set, and whether each is in its range and they rise.
-#[derive(Drop)]
+#[derive(Clone, Copy)]
 pub struct Scan {
     pub number: u32,
     pub digits: u32,
@@ -24,7 +24,7 @@ pub struct Scan {
 }
 
 // What the record is to hold of a value, where no question gets no.
-#[derive(Drop)]
+#[derive(Clone, Copy)]
 pub struct Value {
     pub verdict: Verdict,
     pub content: u64,

@@ -1,9 +1,9 @@
 -- `fault`, `follow` and `parse`, from what each question gets.
-use Rattle.std.specs.Prelude.{◌≡◌, refl, List, [], ◌∷◌, ℕ, suc, ◌+◌, ◌≤◌, ◌<◌, length, take, drop}
+use Rattle.std.specs.Prelude.{◌≡◌, List, [], ◌∷◌, ℕ, suc, ◌+◌, ◌≤◌, ◌<◌, length, take, drop}
 use Rattle.std.proofs.Common.{sym, ◌∙◌, arith, length-take, take_all}
 use Rattle.std.proofs.Math.Path.{ap}
 use Rattle.std.proofs.Math.Bool.{true, false}
-use Rattle.strips.specs.Laws.Decision.{asked_yes, asked_no, asked_either}
+use Rattle.strips.specs.Laws.Decision.{asked_yes, asked_no}
 use Rattle.strips.specs.declared.Task.{Task}
 use Rattle.task_format.specs.Limits.{max_text}
 use Rattle.task_format.specs.Text.{lines, begins}
@@ -11,7 +11,6 @@ use Rattle.task_format.specs.Value.{InForm, InRange, Ascending, content}
 use Rattle.task_format.specs.Lines.{key_of, kind_of, last_line, stored}
 use Rattle.task_format.specs.Parse.{Read, zeros, refused, accepted, fault, judged, follow, parse}
 use Rattle.strips.specs.Laws.Choice.{never}
-use Rattle.task_format.specs.Laws.Text.{lines_few}
 use Rattle.task_format.specs.Deciders.{dec_same, dec_at_most, dec_true, dec_in_form, dec_in_range, dec_ascending}
 use Rattle.task_format.specs.declared.Kind.{Kind}
 
@@ -78,29 +77,3 @@ parse_cut text = of (dec_at_most (length text) (max_text + 1))
     of : Dec (length text ≤ max_text + 1) → parse (take (max_text + 1) text) ≡ parse text
     of (yes h) = ap parse (take_all (max_text + 1) text h)
     of (no h) = parse_long (take (max_text + 1) text) (omega (arith, length-take (max_text + 1) text)) ∙ sym (parse_long text (omega arith))
-
--- what holds of the refusals at the lines of a text and of a task that is accepted holds of what the lines say
-follow_cases : (Q : Read → Type 0) (most : ℕ) → ((q place : ℕ) → (q ≡ 0 → ⊥) → place ≤ most → Q (refused q place)) → ((t : Task) → Q (accepted t))
-    → (ls : List (List ℕ)) (n : ℕ) (t : Task) → n + length ls ≤ most → Q (follow ls n t)
-unfolding follow judged
-follow_cases Q most no_more all_read [] n t h = asked_either Q (dec_at_most (suc (last_line t)) n) (λ _. no_more 2 n (λ e. omega arith) (omega arith)) (λ _. all_read t)
-follow_cases Q most no_more all_read (l ∷ ls) n t h =
-    let kind = kind_of t.facts n in
-    let v = drop (length (key_of n)) l in
-    asked_either Q (dec_at_most n (last_line t)) (λ _. no_more 7 n (λ e. omega arith) (omega arith)) (λ _.
-    asked_either Q (dec_true (begins (key_of n) l)) (λ _. no_more 3 n (λ e. omega arith) (omega arith)) (λ _.
-    asked_either Q (dec_same (fault kind v) 0) (λ z. no_more (fault kind v) n z (omega arith)) (λ _.
-    follow_cases Q most no_more all_read ls (n + 1) (stored t n (content kind v)) (omega arith))))
-
--- the same of what a text says: a refusal's place is a line of the text or the one behind its last
-parse_cases : (Q : Read → Type 0) → ((q place : ℕ) → (q ≡ 0 → ⊥) → place ≤ max_text + 1 → Q (refused q place)) → ((t : Task) → Q (accepted t)) → (text : List ℕ) → Q (parse text)
-unfolding parse
-parse_cases Q no_more all_read text =
-    asked_either Q (dec_at_most (length text) max_text) (λ _. no_more 1 0 (λ e. omega arith) (omega arith))
-    (λ h. follow_cases Q (max_text + 1) no_more all_read (lines text) 1 zeros (omega (arith, lines_few text)))
-
-pub parse_place : (text : List ℕ) → (parse text).place ≤ max_text + 1
-parse_place = parse_cases (λ (r : Read). r.place ≤ max_text + 1) (λ q place z h. h) (λ t. omega arith)
-
-pub parse_accepted : (text : List ℕ) → (parse text).number ≡ 0 → parse text ≡ accepted (parse text).task
-parse_accepted = parse_cases (λ (r : Read). r.number ≡ 0 → r ≡ accepted r.task) (λ q place z h e. absurd (z e)) (λ t _. refl)

@@ -1,5 +1,5 @@
 -- Texts taken apart: the first line and the others, the first part of a list and the others.
-use Rattle.std.specs.Prelude.{◌≡◌, refl, true, List, [], ◌∷◌, ℕ, suc, ◌%◌, ◌≤◌, ◌<◌, eqb, length, drop}
+use Rattle.std.specs.Prelude.{◌≡◌, refl, true, List, [], ◌∷◌, ℕ, ◌%◌, ◌≤◌, ◌<◌, eqb, length, drop}
 use Rattle.std.proofs.Common.{sym, ap, ◌∙◌, arith, eq-eqb, ne_eqb, eqb-true, rules}
 use Rattle.strips.specs.Choice.{pick}
 use Rattle.task_format.specs.Text.{newline, comma, push, split, lines, parts, begins}
@@ -15,18 +15,6 @@ module _ (c : ℕ) (end : List (List ℕ)) where
   pub split_more : (b : ℕ) (t : List ℕ) → (b ≡ c → ⊥) → split c end (b ∷ t) ≡ push b (split c end t)
   unfolding split
   split_more b t n = rw (ne_eqb b c n)
-
-push_few : (b : ℕ) (ps : List (List ℕ)) → length (push b ps) ≤ suc (length ps)
-push_few b [] = omega arith
-push_few b (p ∷ ps) = omega arith
-
--- there are no more lines than bytes
-pub lines_few : (t : List ℕ) → length (lines t) ≤ length t
-unfolding split
-lines_few [] = omega arith
-lines_few (b ∷ t) =
-    let rest = split newline [] t in
-    by_test (λ (ls : List (List ℕ)). length ls ≤ suc (length t)) (eqb b newline) ([] ∷ rest) (push b rest) (λ _. omega (arith, lines_few t)) (λ _. omega (arith, lines_few t, push_few b rest))
 
 -- ---- the parts of a list
 

@@ -1,8 +1,8 @@
 -- Every example of the table passes its test, and so what it claims is so.
 use Rattle.std.specs.Prelude.{◌≡◌, refl, true, ℕ, eqb, leb, length}
 use Rattle.std.proofs.Common.{ap, ◌∙◌, ⊎_elim, arith, eqb-true, leb-true, ltb-true}
-use mathlib.Core.List.{List, [], ◌∷◌, ◌++◌, Memᴰ}
-use Rattle.std.proofs.Math.Logic.{Dec.and}
+use mathlib.Core.List.{List, [], ◌∷◌, ◌++◌}
+use Rattle.std.proofs.Math.Logic.Dec
 use Rattle.std.proofs.Math.Decide.{ℕ_discrete, dec_le, dec_lt}
 use Rattle.strips.specs.Decision.{ask, says, dec_equivalent, dec_when, dec_all_below}
 use Rattle.strips.specs.State.{dec_holds, after}
@@ -22,11 +22,11 @@ use Rattle.task_format.specs.Deciders.{dec_same, dec_at_most, dec_true, dec_eith
 use Rattle.task_format.specs.Render.{digits_of, facts_of, listed, value_text, line_text, lines_text, render}
 use Rattle.round_trip.specs.Theorems.{written_read, written_cut_read}
 use Rattle.worked.specs.Check.{both, either, every, some, every_up_to, when, same_list, same_value, below, holds, not_later, at_most, runs_to, serves, closed, tabled, responds, answered, rises, stands, covers, attack_nodes, is_front, among, not, distinct, is_reach}
-use Rattle.worked.specs.Laws.Tests.{both_first, both_second, either_of, every_each, same_list_lem, runs_to_lem}
+use Rattle.worked.specs.Laws.Tests.{both_first, both_second, either_of, same_list_lem, runs_to_lem}
 use Rattle.worked.specs.Laws.Sound.{attack_response, front_is, reach_is}
 use Rattle.worked.specs.Examples.{Example, front, reach, replay, refusal, file, covered, Claims, test, act, hall, worked, node, attack, line, attacks, second, lines, text, first_covers, FirstCovers, examples}
 
-all_pass : every test examples ≡ true
+pub all_pass : every test examples ≡ true
 unfolding every test examples both either some every_up_to when same_list same_value up_to below holds not_later at_most runs_to serves closed tabled responds answered rises stands covers attack_nodes is_front among not distinct is_reach act hall worked node attack line attacks second lines text first_covers render lines_text line_text value_text listed facts_of digits_of field action_field part_of action_key parse follow judged fault zeros content decimal_from members set_of InForm InRange Ascending key_of kind_of stored with_action split begins dec_number dec_either dec_empty dec_all dec_between dec_rises_from dec_rises dec_in_form dec_in_range dec_ascending dec_same dec_at_most dec_true replayed passing end_state ask says leader_actions follower_actions dec_holds after cost ℕ_discrete dec_le dec_lt dec_valid dec_places dec_unused dec_proper dec_within dec_when dec_all_below Dec.and dec_equivalent dec_known
 all_pass = refl
 
@@ -36,7 +36,7 @@ first_covers_lem [] price a e = absurd (let z : ◌≡◌ {A = ℕ} 0 1 = cc in 
 first_covers_lem (l ∷ ls) price a e = (leb-true l.price price (both_first _ _ e), up_to_is a l.answer (both_second (leb l.price price) _ e))
 
 -- what passes its test is so
-sound : (e : Example) → test e ≡ true → Claims e
+pub sound : (e : Example) → test e ≡ true → Claims e
 unfolding test
 sound (front t attacks lines) e = front_is t attacks lines e
 sound (reach t attacks states enough short) e =
@@ -71,7 +71,3 @@ sound (covered t attacks lines x price) e =
       },
       first_covers_lem lines price x.answer (both_second (both runs (answered t x)) _ rest),
     )
-
--- every example of the table is so
-pub examples_hold : (e : Example) → Memᴰ e examples → Claims e
-examples_hold e m = sound e (every_each test examples all_pass e m)

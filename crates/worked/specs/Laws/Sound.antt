@@ -250,8 +250,8 @@ module _ (t : Task) (attacks : List Attack) (states : List ℕ) (checked : is_re
       let e = follower_table x m.listed in
       let run : Runs (follower_actions t) x.node.state r.follower_plan s = rw m.state r.follower in
       let v = every_plan (follower_actions t) x.node.state x.nodes (both_first _ _ e) run in
-      let in_List = every_each (λ n. among n.state states) x.nodes (both_second (tabled (follower_actions t) x.node.state x.nodes) _ e) v.row v.listed in
-      rw v.state at (among_is v.row.state states in_List)
+      let in_list = every_each (λ n. among n.state states) x.nodes (both_second (tabled (follower_actions t) x.node.state x.nodes) _ e) v.row v.listed in
+      rw v.state at (among_is v.row.state states in_list)
 
   ending : {a b : ℕ} {p : List ℕ} (s : ℕ) → s ≡ b → Runs (follower_actions t) a p b → Runs (follower_actions t) a p s
   ending s e r = rw e r

@@ -1,0 +1,2 @@
+-- What is proved about places in a text.
+pub mod Places

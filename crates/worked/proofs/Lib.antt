@@ -1,0 +1,2 @@
+-- That the worked examples hold.
+pub mod Held
