@@ -1,4 +1,6 @@
 // What C and Rust programs call: the report of a hall file's text, and its reader. Slices pass as a pointer and a length.
+#![tactic(auto)]
+
 mod telling;
 
 ghost use Rattle.std.specs.Prelude.{◌≡◌};

@@ -1,4 +1,6 @@
 // Not for outsiders. The entries of the front's lines, stored in a lent slice; the rows that they are read from are cleared with the last.
+#![tactic(auto)]
+
 ghost use Rattle.std.specs.Prelude.{◌≡◌, ◌+◌, ◌≤◌, ◌<◌, length};
 ghost use Rattle.front_lines.specs.Lines.{Listed};
 ghost use Rattle.front_entries.specs.Entries.{entry_in, stored, rows_left};

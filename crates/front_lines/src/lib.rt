@@ -1,4 +1,6 @@
 // Not for outsiders. The lines of the Pareto front among the rows of the searches: chosen in one pass, counted, written.
+#![tactic(auto)]
+
 mod entries;
 mod plans;
 mod selection;

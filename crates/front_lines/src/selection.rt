@@ -11,7 +11,7 @@ use planner::{answer, note, price, put_note, rank, settled_row};
 use rows::WORDS;
 
 // The place of a row among the lines: the last one's, behind it, or none.
-#[derive(Drop)]
+#[derive(Clone, Copy)]
 enum Place {
     Instead,
     Behind,

@@ -26,6 +26,7 @@ pub fn written_lines(reported: Reported) -> usize
 }
 
 // Question 16, and plans and text of the first `count` lines; the rows are cleared where it gets no.
+#[tactic(auto, using(crate::specs::Asked::no_room))]
 fn print_lines(
     rows: &mut [[u64; WORDS]],
     count: usize,

@@ -13,6 +13,7 @@ use rows::WORDS;
 use search::MAX_PLACES;
 
 // The bytes of line k. Each of its plans is written to the front of `plan` and counted there.
+#[tactic(auto, using(planner::specs::Laws::Reading::leader_few, planner::specs::Laws::Reading::follower_few))]
 fn line_bytes(rows: &[[u64; WORDS]], k: usize, plan: &mut [u8]) -> usize
     requires { (k < length rows.now) × Readable rows.now (note_at rows.now k) × (length plan.old ≡ max_places) }
     ensures { (result ≡ length (line_text (line_at rows.now (note_at rows.now k)))) × (result ≤ max_line_bytes) }

@@ -1,4 +1,6 @@
 // The report of a task: its Pareto front in lent slices, and the text of the front's lines; with entries, and without.
+#![tactic(auto)]
+
 mod asked;
 mod bytes;
 mod call;
@@ -8,7 +10,7 @@ pub use call::{print, report};
 use outcome::Refusal;
 
 // The number of entries and the number of bytes written, or the first question that gets no.
-#[derive(Drop)]
+#[derive(Clone, Copy)]
 pub enum Reported {
     Written(usize, usize),
     Refused(Refusal),

@@ -1,5 +1,7 @@
 // Not for outsiders. The text of a front: its bytes, counted and put into a lent slice; and the text of a refusal. What they are stands in
 // specs/Report.antt.
+#![tactic(auto)]
+
 mod counting;
 mod putting;
 

@@ -1,5 +1,5 @@
 -- What is printed is determined by the text, by no more of it than is read, and is the report where that fits.
-use Rattle.std.specs.Prelude.{◌≡◌, refl, ℕ, ◌+◌, ◌≤◌, ◌<◌, length, take, drop, replicate}
+use Rattle.std.specs.Prelude.{◌≡◌, refl, ℕ, ◌≤◌, ◌<◌, length, take, drop, replicate}
 use Rattle.std.proofs.Common.{sym, ap, ◌∙◌, arith, zero-add, length-append}
 use mathlib.Core.List.Memᴰ
 use mathlib.Core.List.{List, [], ◌∷◌, ◌++◌, map, Memᴰ}
@@ -12,7 +12,8 @@ use Rattle.outcome.specs.Laws.Refusal.{number_some}
 use Rattle.outcome.specs.declared.Refusal.{Refusal}
 use Rattle.task_format.specs.Deciders.{dec_at_most}
 use Rattle.task_format.specs.Parse.{Read, parse, accepted}
-use Rattle.task_format.specs.Laws.Parse.{parse_cut, parse_place, parse_accepted}
+use Rattle.task_format.specs.Laws.Parse.{parse_cut}
+use Rattle.task_format.proofs.Places.{parse_place, parse_accepted}
 use Rattle.round_trip.specs.Theorems.{read_valid}
 use Rattle.text_output.specs.Puts.{Puts}
 use Rattle.text_output.specs.Laws.Puts.{put_over}

@@ -1,5 +1,5 @@
 -- The text put line by line: the plans of the lines that are left come next in the plan numbers.
-use Rattle.std.specs.Prelude.{◌≡◌, ℕ, suc, ◌+◌, ◌≤◌, ◌<◌, get_or, take, drop}
+use Rattle.std.specs.Prelude.{◌≡◌, ℕ, ◌+◌, ◌≤◌, ◌<◌, take, drop}
 use Rattle.std.proofs.Math.Path.{refl, ap}
 use Rattle.std.proofs.Common.{sym, ◌∙◌, add-one, arith, drop_of_length-le, drop-drop, drop_at}
 use mathlib.Core.List.{List, [], ◌∷◌, ◌++◌, map, append_assoc}
@@ -12,8 +12,6 @@ use Rattle.planner.specs.Reading.{notes}
 use Rattle.planner.specs.Laws.Notes.{notes_length}
 use Rattle.front_lines.specs.Lines.{line_at, note_at, lines_in}
 use Rattle.front.specs.Laws.Stages.{lines_length}
-use Rattle.text_output.specs.Puts.{Puts}
-use Rattle.text_output.specs.Laws.Puts.{puts_append}
 use Rattle.report_text.specs.Report.{line_text, lines_text, head_text, report_text}
 use Rattle.report_text.specs.Entries.{entry_steps, line_from}
 use Rattle.report_text.specs.Laws.Entries.{leader_steps, follower_steps, line_from_lem}

@@ -7,7 +7,7 @@ use Rattle.std.proofs.Math.Seq.{take_at}
 use Rattle.outcome.specs.declared.Entry.{Entry}
 use Rattle.pareto.specs.Front.{Line}
 use Rattle.pareto.specs.Layout.{entry_for}
-use Rattle.report_text.specs.Entries.{line_of, entry_steps, line_from}
+use Rattle.report_text.specs.Entries.{line_of, line_from}
 use Rattle.report_text.specs.Laws.Sizes.{entry_line}
 
 module _ (l : Line) where

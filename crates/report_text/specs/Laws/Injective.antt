@@ -1,21 +1,20 @@
--- Different lists of lines have different texts.
+-- Where texts are cut, and different plans have different texts; that different lists of lines have is in proofs/Injective.antt.
 use Rattle.std.specs.Prelude.{◌≡◌, refl, ℕ, ◌<◌, length}
 use Rattle.std.proofs.Common.{sym, ap, ◌∙◌, arith, length-append}
 use mathlib.Core.List.{List, [], ◌∷◌, ◌++◌, append_assoc, head-eq_of_cons-eq, tail-eq_of_cons-eq}
-use Rattle.outcome.specs.Answer.{Value, minutes, none}
 use Rattle.task_format.specs.Text.{newline, comma, zero_digit}
 use Rattle.task_format.specs.Lines.{outages_key, moves_key}
 use Rattle.task_format.specs.Value.{All, IsDigit}
 use Rattle.task_format.specs.Laws.Decimal.{Without, all_append, digits_without}
 use Rattle.pareto.specs.Front.{Line}
-use Rattle.report_text.specs.Report.{price_key, answer_key, entries_key, none_word, numeral, further_text, plan_text, answer_text, printed, line_text, lines_text, head_text, report_text}
+use Rattle.report_text.specs.Report.{price_key, answer_key, none_word, numeral, further_text, plan_text, answer_text, printed, line_text}
 use Rattle.report_text.specs.Laws.Numerals.{numeral_digits, numeral_injective, numeral_some}
 
 -- ---- texts ended by a byte that they do not have
 
-record Same (a b x y : List ℕ) : Type 0 where
-  first : a ≡ b
-  rest : x ≡ y
+pub record Same (a b x y : List ℕ) : Type 0 where
+  pub first : a ≡ b
+  pub rest : x ≡ y
 
 cut : (c : ℕ) (a b x y : List ℕ) → Without c a → Without c b → a ++ c ∷ x ≡ b ++ c ∷ y → Same a b x y
 cut c [] [] x y p q e = record { first = refl; rest = tail-eq_of_cons-eq e }
@@ -27,7 +26,7 @@ cut c (i ∷ a) (j ∷ b) x y p q e =
 
 -- ---- plans
 
-numeral_without : (c n : ℕ) → c < zero_digit → Without c (numeral n)
+pub numeral_without : (c n : ℕ) → c < zero_digit → Without c (numeral n)
 numeral_without c n h = digits_without c h (numeral n) (numeral_digits n)
 
 -- each number before its comma
@@ -74,27 +73,15 @@ unfolding further_text
 further_plain [] = tt
 further_plain (n ∷ ns) = ((λ e. omega (arith, e)), all_append (λ b. b ≡ newline → ⊥) (numeral n) _ (numeral_without newline n (omega arith)) (further_plain ns))
 
-plan_plain : (p : List ℕ) → Without newline (plan_text p)
+pub plan_plain : (p : List ℕ) → Without newline (plan_text p)
 unfolding plan_text
 plan_plain [] = tt
 plan_plain (n ∷ ns) = all_append (λ b. b ≡ newline → ⊥) (numeral n) _ (numeral_without newline n (omega arith)) (further_plain ns)
 
 -- ---- answers
 
-no_number : (n : ℕ) → numeral n ≡ none_word → ⊥
+pub no_number : (n : ℕ) → numeral n ≡ none_word → ⊥
 no_number n e = let d : All IsDigit none_word = rw e at (numeral_digits n) in omega (arith, d.0.1)
-
-pub answer_injective : (a b : Value) → answer_text a ≡ answer_text b → a ≡ b
-unfolding answer_text
-answer_injective (minutes m) (minutes n) e = ap minutes (numeral_injective m n e)
-answer_injective (minutes m) none e = absurd (no_number m e)
-answer_injective none (minutes n) e = absurd (no_number n (sym e))
-answer_injective none none e = refl
-
-answer_plain : (a : Value) → Without newline (answer_text a)
-unfolding answer_text
-answer_plain (minutes n) = numeral_without newline n (omega arith)
-answer_plain none = ((λ e. omega (arith, e)), ((λ e. omega (arith, e)), ((λ e. omega (arith, e)), ((λ e. omega (arith, e)), tt))))
 
 -- ---- lines
 
@@ -106,43 +93,16 @@ cancel : (key a b : List ℕ) → key ++ a ≡ key ++ b → a ≡ b
 cancel [] a b e = e
 cancel (k ∷ key) a b e = cancel key a b (tail-eq_of_cons-eq e)
 
-printed_cut : (key v w x y : List ℕ) → Without newline v → Without newline w → printed key v ++ x ≡ printed key w ++ y → Same v w x y
+pub printed_cut : (key v w x y : List ℕ) → Without newline v → Without newline w → printed key v ++ x ≡ printed key w ++ y → Same v w x y
 printed_cut key v w x y p q e =
     cut newline v w x y p q (cancel key (v ++ newline ∷ x) (w ++ newline ∷ y) (sym (printed_behind key v x) ∙ e ∙ printed_behind key w y))
 
 -- the text of a line and what follows
-four : (l : Line) (x : List ℕ) → line_text l ++ x
+pub four : (l : Line) (x : List ℕ) → line_text l ++ x
     ≡ printed price_key (numeral l.price) ++ (printed answer_key (answer_text l.answer) ++ (printed outages_key (plan_text l.leader_plan) ++ (printed moves_key (plan_text l.follower_plan) ++ x)))
 unfolding line_text
 four l x = simp append_assoc
 
-line_cut : (l m : Line) (x y : List ℕ) → line_text l ++ x ≡ line_text m ++ y → (l ≡ m) × (x ≡ y)
-line_cut l m x y e =
-    let p = printed_cut price_key (numeral l.price) (numeral m.price) _ _ (numeral_without newline l.price (omega arith)) (numeral_without newline m.price (omega arith)) (sym (four l x) ∙ e ∙ four m y) in
-    let a = printed_cut answer_key (answer_text l.answer) (answer_text m.answer) _ _ (answer_plain l.answer) (answer_plain m.answer) p.rest in
-    let o = printed_cut outages_key (plan_text l.leader_plan) (plan_text m.leader_plan) _ _ (plan_plain l.leader_plan) (plan_plain m.leader_plan) a.rest in
-    let f = printed_cut moves_key (plan_text l.follower_plan) (plan_text m.follower_plan) x y (plan_plain l.follower_plan) (plan_plain m.follower_plan) o.rest in (
-      (λ k. record {
-        price = numeral_injective l.price m.price p.first k;
-        answer = answer_injective l.answer m.answer a.first k;
-        leader_plan = plan_injective l.leader_plan m.leader_plan o.first k;
-        follower_plan = plan_injective l.follower_plan m.follower_plan f.first k;
-      }),
-      f.rest,
-    )
-
-line_some : (l : Line) (x : List ℕ) → 0 < length (line_text l ++ x)
+pub line_some : (l : Line) (x : List ℕ) → 0 < length (line_text l ++ x)
 line_some l x =
     omega (arith, ap length (four l x ∙ printed_behind price_key (numeral l.price) _))
-
-lines_injective : (xs ys : List Line) → lines_text xs ≡ lines_text ys → xs ≡ ys
-unfolding lines_text
-lines_injective [] [] e = refl
-lines_injective [] (m ∷ ys) e = absurd (omega (arith, ap length e, line_some m (lines_text ys)))
-lines_injective (l ∷ xs) [] e = absurd (omega (arith, ap length e, line_some l (lines_text xs)))
-lines_injective (l ∷ xs) (m ∷ ys) e = let r = line_cut l m (lines_text xs) (lines_text ys) e in λ k. r.0 k ∷ lines_injective xs ys r.1 k
-
-pub report_injective : (xs ys : List Line) → report_text xs ≡ report_text ys → xs ≡ ys
-unfolding report_text head_text
-report_injective xs ys e =
-    lines_injective xs ys (printed_cut entries_key (numeral (length xs)) (numeral (length ys)) (lines_text xs) (lines_text ys) (numeral_without newline (length xs) (omega arith)) (numeral_without newline (length ys) (omega arith)) e).rest

@@ -7,11 +7,11 @@ use Rattle.task_format.specs.Text.{newline, comma}
 use Rattle.task_format.specs.Lines.{outages_key, moves_key}
 use Rattle.pareto.specs.Front.{Line}
 use Rattle.outcome.specs.declared.Answer.{Answer}
-use Rattle.outcome.specs.declared.Answer.TheVariants.{Cost, None}
+use Rattle.outcome.specs.declared.Answer.TheVariants.{Cost}
 use Rattle.outcome.specs.declared.Minutes.{Minutes}
 use Rattle.outcome.specs.declared.Entry.{Entry}
 use Rattle.pareto.specs.Layout.{answer_for, entry_for}
-use Rattle.report_text.specs.Report.{entries_key, price_key, answer_key, none_word, numeral, further_text, plan_text, answer_text, printed, line_text, lines_text, head_text, report_text, refused_key, line_key, refusal_text}
+use Rattle.report_text.specs.Report.{entries_key, price_key, answer_key, numeral, further_text, plan_text, answer_text, printed, line_text, lines_text, head_text, report_text, refused_key, line_key, refusal_text}
 use Rattle.report_text.specs.Entries.{line_of, entry_bytes}
 use Rattle.text_output.specs.Puts.{number_digits}
 use Rattle.report_text.specs.Laws.Numerals.{numeral_short, numeral_long, number_few}
@@ -51,10 +51,6 @@ pub further_length : (plan : List ℕ) (i : ℕ) → i < length plan → length 
 further_length plan i h = ap length (further_turn plan i h) ∙ omega (arith, length-append (numeral (get_or plan i 0)) (further_text (drop (i + 1) plan)))
 
 -- ---- answers
-
-pub none_bytes : {a : Answer} → a ≡ None → answer_text (value_of a) ≡ none_word
-unfolding answer_text
-none_bytes e = rw e refl
 
 pub minutes_bytes : {a : Answer} {m : Minutes} → a ≡ Cost m → answer_text (value_of a) ≡ numeral m.0
 unfolding answer_text

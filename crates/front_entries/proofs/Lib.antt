@@ -1,4 +1,0 @@
--- What proofs of functions share.
-pub mod Rows
-pub mod Again
-pub mod Local
