@@ -1,4 +1,8 @@
 // Reads a hall file on standard input and prints the report of its front, or the first question that gets no and its line.
-fn main() {
-    report_program::run();
+#![tactic(auto)]
+
+use std::process::ExitCode;
+
+fn main(rt: HostRuntime) -> ExitCode {
+    report_program::run(&rt)
 }

@@ -6,4 +6,4 @@ use Rattle.report_program.specs.declared.reading.Input.TheVariants.{Text, Unread
 -- how many bytes, 0 where reading fails
 unfoldable pub taken : Input → ℕ
 taken (Text n) = n
-taken Unreadable = 0
+taken (Unreadable _) = 0

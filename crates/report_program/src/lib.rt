@@ -1,27 +1,36 @@
 // What the report program does, not for outsiders: reads a hall file on standard input and prints the answer to it on standard
 // output. Where reading or writing fails, a line on standard error says so.
+#![tactic(auto)]
+
 mod reading;
 
 use file_report::{OUTPUT_BYTES, answer_text, blank_input};
-use libc::STDOUT_FILENO;
-use reading::{Input, read_input};
+use std::io;
+use std::process::ExitCode;
 
 // Prints the answer to a text.
-pub fn print_answer(text: &[u8]) {
+#[tactic(auto, using(file_report::specs::Laws::Printed::put_fits))]
+pub fn print_answer(rt: &impl Print, text: &[u8]) -> io::Result<()> {
     let mut output = [0u8; OUTPUT_BYTES];
     let bytes = answer_text(text, &mut output);
-    let is_written = io::write_all(STDOUT_FILENO, &output[..bytes]);
-    if !is_written {
-        os::fail(b"standard output cannot be written");
-    }
+    rt.write_all(&output[..bytes])
 }
 
-// The program.
-pub fn run() {
+// Says what failed, and why.
+fn fail(rt: &impl Eprint, what: &str, error: io::Error) -> ExitCode {
+    let _ = eprintln!(rt; "{what}: {error}");
+    ExitCode::FAILURE
+}
+
+// The program, and the status that it ends with.
+#[tactic(auto, unfolding(crate::specs::Input::taken))]
+pub fn run(rt: &(impl Input + Print + Eprint)) -> ExitCode {
     let mut bytes = blank_input();
-    let input = read_input(&mut bytes);
-    match input {
-        Input::Text(n) => print_answer(&bytes[..n]),
-        Input::Unreadable => os::fail(b"standard input cannot be read"),
+    match reading::read_input(&mut rt.reader(), &mut bytes) {
+        reading::Input::Text(n) => match print_answer(rt, &bytes[..n]) {
+            Ok(()) => ExitCode::SUCCESS,
+            Err(error) => fail(rt, "standard output cannot be written", error),
+        },
+        reading::Input::Unreadable(error) => fail(rt, "standard input cannot be read", error),
     }
 }

@@ -1,64 +1,69 @@
 // Reads the texts on standard input one after the other; each stands behind a label, and "%" parts them. It prints the label
 // and number and place of the refusal, or 0 and 0 and then the text that is written of the task. Then it tries texts at the
 // limit of question 1, the longest file, and what the writer refuses.
+#![tactic(auto)]
+
 ghost use Rattle.std.specs.Prelude.{◌≤◌, length};
 
 use outcome::Refusal;
+use std::io;
 use strips::{Action, Task};
 use task_format::MAX_TEXT;
 use task_reader::Verdict;
 use task_writer::Written;
+use test_support::read_full;
 
-fn print_label(label: &[u8]) {
-    io::write_all(1, label);
-    io::write_all(1, b": ");
+// What is read at once; a longer input is cut there.
+const INPUT_BYTES: usize = 65_536;
+
+fn print_label(rt: &impl Print, label: &[u8]) -> io::Result<()> {
+    rt.write_all(label)?;
+    print!(rt; ": ")
 }
 
-fn print_pair(a: u64, b: u64) {
-    io::print_decimal(1, a);
-    io::write_all(1, b" ");
-    io::print_decimal(1, b);
-    io::write_all(1, b"\n");
+fn print_pair(rt: &impl Print, a: u64, b: u64) -> io::Result<()> {
+    println!(rt; "{a} {b}")
 }
 
-fn print_refusal(refusal: Refusal) {
-    print_pair(refusal.number() as u64, refusal.place() as u64);
+fn print_refusal(rt: &impl Print, refusal: Refusal) -> io::Result<()> {
+    print_pair(rt, refusal.number() as u64, refusal.place() as u64)
 }
 
-fn print_front(text: &[u8], n: usize) {
+fn print_front(rt: &impl Print, text: &[u8], n: usize) -> io::Result<()> {
     if n <= text.len() {
-        io::write_all(1, &text[..n]);
+        rt.write_all(&text[..n])?;
     }
+    Ok(())
 }
 
 // What is written of a task, or the refusal.
-fn show(task: Task) {
+fn show(rt: &impl Print, task: Task) -> io::Result<()> {
     let mut out = [0u8; MAX_TEXT];
     let written = task_writer::write(task, &mut out);
     match written {
-        Written::Bytes(n) => print_front(&out, n),
-        Written::Refused(refusal) => print_refusal(refusal),
+        Written::Bytes(n) => print_front(rt, &out, n),
+        Written::Refused(refusal) => print_refusal(rt, refusal),
     }
 }
 
-fn report(text: &[u8]) {
+fn report(rt: &impl Print, text: &[u8]) -> io::Result<()> {
     let reading = task_reader::read(text);
     let verdict = reading.verdict;
     match verdict {
         Verdict::Accepted => {
-            print_pair(0, 0);
+            print_pair(rt, 0, 0)?;
             let task = reading.task;
-            show(task);
+            show(rt, task)
         }
-        Verdict::Refused(refusal) => print_refusal(refusal),
+        Verdict::Refused(refusal) => print_refusal(rt, refusal),
     }
 }
 
-fn report_piece(is_label: bool, piece: &[u8]) {
+fn report_piece(rt: &impl Print, is_label: bool, piece: &[u8]) -> io::Result<()> {
     if is_label {
-        print_label(piece);
+        print_label(rt, piece)
     } else {
-        report(piece);
+        report(rt, piece)
     }
 }
 
@@ -77,15 +82,16 @@ fn piece_end(input: &[u8], from: usize) -> usize
     i
 }
 
-fn report_all(input: &[u8]) {
+fn report_all(rt: &impl Print, input: &[u8]) -> io::Result<()> {
     let mut is_label = true;
     let mut start = 0;
     while start < input.len() {
         let end = piece_end(input, start);
-        report_piece(is_label, &input[start..end]);
+        report_piece(rt, is_label, &input[start..end])?;
         is_label = !is_label;
         start = end + 1;
     }
+    Ok(())
 }
 
 // The longest file: all places used, all facts in every list.
@@ -109,54 +115,54 @@ fn full() -> Task {
 }
 
 // What reading the first n bytes gives.
-fn print_verdict(text: &[u8], n: usize) {
+fn print_verdict(rt: &impl Print, text: &[u8], n: usize) -> io::Result<()> {
     if text.len() < n {
-        return;
+        return Ok(());
     }
     let reading = task_reader::read(&text[..n]);
     let verdict = reading.verdict;
     match verdict {
-        Verdict::Accepted => print_pair(0, 0),
-        Verdict::Refused(refusal) => print_refusal(refusal),
+        Verdict::Accepted => print_pair(rt, 0, 0),
+        Verdict::Refused(refusal) => print_refusal(rt, refusal),
     }
 }
 
 // How many bytes are written of a task, and what reading them back gives; or the refusal, and what the output then holds.
-fn write_and_read(task: Task, out: &mut [u8]) {
+fn write_and_read(rt: &impl Print, task: Task, out: &mut [u8]) -> io::Result<()> {
     let written = task_writer::write(task, out);
     match written {
         Written::Bytes(n) => {
-            print_pair(0, n as u64);
-            print_label(b"read back");
-            print_verdict(out, n);
+            print_pair(rt, 0, n as u64)?;
+            print_label(rt, b"read back")?;
+            print_verdict(rt, out, n)
         }
         Written::Refused(refusal) => {
-            print_refusal(refusal);
-            io::write_all(1, out);
-            io::write_all(1, b"\n");
+            print_refusal(rt, refusal)?;
+            rt.write_all(out)?;
+            print!(rt; "\n")
         }
     }
 }
 
-fn main() {
-    let mut input = io::large_buffer();
-    let n = io::read_full(0, &mut input);
-    report_all(&input[..n]);
+fn main(rt: HostRuntime) -> io::Result<()> {
+    let mut input = [0u8; INPUT_BYTES];
+    let n = read_full(&mut rt.reader(), &mut input)?;
+    report_all(&rt, &input[..n])?;
     let limit = [b'x'; 28_672];
-    print_label(b"28,672 bytes");
-    report(&limit);
+    print_label(&rt, b"28,672 bytes")?;
+    report(&rt, &limit)?;
     let beyond = [b'x'; 28_673];
-    print_label(b"28,673 bytes");
-    report(&beyond);
+    print_label(&rt, b"28,673 bytes")?;
+    report(&rt, &beyond)?;
     let task = full();
     let mut longest = [b'-'; 28_150];
-    print_label(b"longest file");
-    write_and_read(task, &mut longest);
+    print_label(&rt, b"longest file")?;
+    write_and_read(&rt, task, &mut longest)?;
     let mut small = [b'-'; 4];
-    print_label(b"4 bytes for the longest file");
-    write_and_read(task, &mut small);
+    print_label(&rt, b"4 bytes for the longest file")?;
+    write_and_read(&rt, task, &mut small)?;
     let mut broken = task;
     broken.facts = 63;
-    print_label(b"facts=63");
-    write_and_read(broken, &mut small);
+    print_label(&rt, b"facts=63")?;
+    write_and_read(&rt, broken, &mut small)
 }

@@ -1,54 +1,51 @@
 // Prints on standard output.
-use libc::STDOUT_FILENO;
 use outcome::{Answer, Entry, Refusal};
+use std::io;
 
-pub fn print(text: &[u8]) {
-    io::write_all(STDOUT_FILENO, text);
+pub fn print(rt: &impl Print, text: &[u8]) -> io::Result<()> {
+    rt.write_all(text)
 }
 
-pub fn print_field(name: &[u8], number: u64) {
-    print(name);
-    print(b"=");
-    io::print_decimal(STDOUT_FILENO, number);
+pub fn print_field(rt: &impl Print, name: &[u8], number: u64) -> io::Result<()> {
+    print(rt, name)?;
+    print!(rt; "={number}")
 }
 
-pub fn print_answer(answer: Answer) {
+pub fn print_answer(rt: &impl Print, answer: Answer) -> io::Result<()> {
     match answer {
-        Answer::Cost(minutes) => print_field(b" answer", minutes.0 as u64),
-        Answer::None => print(b" answer=none"),
+        Answer::Cost(minutes) => print_field(rt, b" answer", minutes.0 as u64),
+        Answer::None => print(rt, b" answer=none"),
     }
 }
 
-pub fn print_refusal(refusal: Refusal) {
-    print_field(b" refused", refusal.number() as u64);
-    print_field(b" place", refusal.place() as u64);
+pub fn print_refusal(rt: &impl Print, refusal: Refusal) -> io::Result<()> {
+    print_field(rt, b" refused", refusal.number() as u64)?;
+    print_field(rt, b" place", refusal.place() as u64)
 }
 
-pub fn print_entry(entry: Entry) {
+pub fn print_entry(rt: &impl Print, entry: Entry) -> io::Result<()> {
     let price = entry.price;
     let answer = entry.answer;
-    print_field(b"  price", price.0 as u64);
-    print_answer(answer);
-    print_field(b" outages", entry.leader_steps as u64);
-    print_field(b" moves", entry.follower_steps as u64);
-    print(b"\n");
+    print_field(rt, b"  price", price.0 as u64)?;
+    print_answer(rt, answer)?;
+    print_field(rt, b" outages", entry.leader_steps as u64)?;
+    print_field(rt, b" moves", entry.follower_steps as u64)?;
+    print(rt, b"\n")
 }
 
 // A number behind a comma.
-pub fn print_item(number: u64) {
-    print(b",");
-    io::print_decimal(STDOUT_FILENO, number);
+pub fn print_item(rt: &impl Print, number: u64) -> io::Result<()> {
+    print!(rt; ",{number}")
 }
 
-fn print_number(number: u8) {
-    print_item(number as u64);
+fn print_number(rt: &impl Print, number: u8) -> io::Result<()> {
+    print_item(rt, number as u64)
 }
 
 // The numbers of a plan slice, each behind a comma.
-pub fn print_numbers(numbers: &[u8]) {
-    let mut i = 0;
-    while i < numbers.len() {
-        print_number(numbers[i]);
-        i += 1;
+pub fn print_numbers(rt: &impl Print, numbers: &[u8]) -> io::Result<()> {
+    for number in numbers {
+        print_number(rt, *number)?;
     }
+    Ok(())
 }
