@@ -1,7 +1,7 @@
 """Compares the proved reader and writer with the other planner's: python3 reference/compare_reader.py SEED COUNT
 
-Run `rt check` first: the texts go through the built program task_file_test, behind a label each. Number and place
-of a refusal have to agree, and the text that is written of a task.
+Run `rt run < stdin` in crates/task_file_test first: the texts go through the built program, behind a label each. Number and
+place of a refusal have to agree, and the text that is written of a task.
 """
 
 import collections
@@ -14,7 +14,7 @@ import sys
 import halls
 import planner
 
-PROGRAM = pathlib.Path(__file__).parent.parent / "target" / "bin" / "task_file_test"
+PROGRAM = pathlib.Path(__file__).parent.parent / "crates" / "task_file_test" / "out" / "task_file_test"
 # What the program reads at once.
 INPUT_BYTES = 60_000
 SEPARATOR = b"%"
