@@ -1,4 +1,4 @@
-// What the test programs share, not for outsiders: prints, document 01's hall, and how many places hold a number.
+// What the test programs share, not for outsiders: prints, reading, document 01's hall, and how many places hold a number.
 #![tactic(auto)]
 
 mod counting;

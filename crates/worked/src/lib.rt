@@ -1,2 +1,2 @@
-// Document 01's worked examples, as theorems about the meanings. They stand in specs/.
+// Document 01's worked examples, as theorems about the meanings. They stand in specs/, and that all hold in proofs/.
 #![tactic(auto)]
