@@ -1,14 +1,13 @@
 -- How lines are laid out in lent slices: an entry for each line, and the plans one after another.
-use Rattle.std.specs.Prelude.{List, [], ◌∷◌, ◌++◌, ℕ, length}
+use Rattle.std.specs.Prelude.{Option, Some, None, List, [], ◌∷◌, ◌++◌, ℕ, length}
 use Rattle.outcome.specs.Answer.{Value, minutes, none}
-use Rattle.outcome.specs.declared.Answer.{Answer}
-use Rattle.outcome.specs.declared.Answer.TheVariants.{Cost, None}
+use Rattle.outcome.specs.declared.Minutes.{Minutes}
 use Rattle.pareto.specs.Front.{Line}
 use Rattle.outcome.specs.declared.Entry.{Entry}
 
 -- the entry of a line
-unfoldable pub answer_for : Value → Answer
-answer_for (minutes n) = Cost (record { 0 = n })
+unfoldable pub answer_for : Value → Option Minutes
+answer_for (minutes n) = Some (record { 0 = n })
 answer_for none = None
 
 unfoldable pub entry_for : Line → Entry

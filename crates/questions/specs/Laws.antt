@@ -4,3 +4,4 @@ pub mod Record
 pub mod Replay
 pub mod Size
 pub mod Unique
+pub mod Workspace

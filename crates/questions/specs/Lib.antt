@@ -5,5 +5,6 @@ pub mod Deciders
 pub mod Record
 pub mod Size
 pub mod Memory
+pub mod Workspace
 pub mod Call
 pub mod Laws

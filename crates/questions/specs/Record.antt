@@ -1,11 +1,10 @@
 -- The questions about a record, wherever a call is given one.
-use Rattle.std.specs.Prelude.{List, [], ◌∷◌, ℕ, eqb}
+use Rattle.std.specs.Prelude.{Result, Ok, Err, List, [], ◌∷◌, ℕ, eqb}
 use Rattle.strips.specs.Task.{Valid}
 use Rattle.strips.specs.Deciders.{dec_valid}
 use Rattle.strips.specs.declared.Task.{Task}
 use Rattle.outcome.specs.Refusal.{number_of, place_of}
-use Rattle.outcome.specs.declared.Verdict.{Verdict}
-use Rattle.outcome.specs.declared.Verdict.TheVariants.{Accepted, Refused}
+use Rattle.outcome.specs.declared.Refusal.{Refusal}
 use Rattle.questions.specs.Asked.{◌is◌then◌else◌, first_no}
 use Rattle.questions.specs.Deciders.{dec_chosen}
 
@@ -24,10 +23,10 @@ unfoldable pub record_fault : Task → ℕ
 record_fault t = first_no (dec_record t) record_asks
 
 -- number and place that a verdict says, 0 and 0 where nothing is refused
-abbrev pub number_in : Verdict → ℕ
-number_in Accepted = 0
-number_in (Refused q) = number_of q
+abbrev pub number_in : Result (Unit {0}) Refusal → ℕ
+number_in (Ok _) = 0
+number_in (Err q) = number_of q
 
-abbrev pub place_in : Verdict → ℕ
-place_in Accepted = 0
-place_in (Refused q) = place_of q
+abbrev pub place_in : Result (Unit {0}) Refusal → ℕ
+place_in (Ok _) = 0
+place_in (Err q) = place_of q

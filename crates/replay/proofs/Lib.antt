@@ -1,2 +1,2 @@
 -- What proofs of functions share.
-pub mod Stops
+pub mod Refused

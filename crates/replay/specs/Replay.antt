@@ -1,5 +1,5 @@
 -- What the replay of a leader plan and then a follower plan returns: questions 9 to 12, the costs and the end.
-use Rattle.std.specs.Prelude.{Bool, false, List, [], ◌∷◌, ℕ, suc, ◌+◌, length}
+use Rattle.std.specs.Prelude.{Result, Ok, Err, Bool, false, List, [], ◌∷◌, ℕ, suc, ◌+◌, length}
 use Rattle.std.proofs.Math.Decide.{ℕ_discrete, dec_le}
 use Rattle.strips.specs.Decision.{says, ask}
 use Rattle.strips.specs.Limits.{max_steps}
@@ -10,8 +10,8 @@ use Rattle.outcome.specs.Refusal.{number_of, place_of}
 use Rattle.strips.specs.Deciders.{dec_valid}
 use Rattle.strips.specs.declared.Action.{Action}
 use Rattle.strips.specs.declared.Task.{Task}
-use Rattle.replay.specs.declared.Replayed.{Replayed}
-use Rattle.replay.specs.declared.Replayed.TheVariants.{Ran, Refused}
+use Rattle.outcome.specs.declared.Refusal.{Refusal}
+use Rattle.replay.specs.declared.Ended.{Ended}
 
 -- number and place of the first question that gets no, 0 and 0 where none does; both costs, the end state, whether it holds the goal
 pub record Returned : Type 0 where
@@ -28,9 +28,9 @@ refused n place = record { number = n; place = place; price = 0; minutes = 0; st
 abbrev pub ran : ℕ → ℕ → ℕ → Bool → Returned
 ran price minutes state goal = record { number = 0; place = 0; price = price; minutes = minutes; state = state; goal = goal }
 
-unfoldable pub returned : Replayed → Returned
-returned (Ran r) = ran r.price.0 r.minutes.0 r.state r.goal
-returned (Refused q) = refused (number_of q) (place_of q)
+unfoldable pub returned : Result Ended Refusal → Returned
+returned (Ok r) = ran r.price.0 r.minutes.0 r.state r.goal
+returned (Err q) = refused (number_of q) (place_of q)
 
 -- how many steps at the front of a plan pass a test, each in the state that the steps before it lead to
 unfoldable pub passing : {P : ℕ → ℕ → Type 0} → ((s k : ℕ) → Dec (P s k)) → (ℕ → ℕ → ℕ) → ℕ → List ℕ → ℕ

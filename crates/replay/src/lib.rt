@@ -3,7 +3,7 @@
 
 mod running;
 
-use outcome::{Minutes, Price, Refusal};
+use outcome::{Minutes, Price};
 pub use running::replay;
 
 // A leader plan and then a follower plan, run from the initial state.
@@ -13,10 +13,4 @@ pub struct Ended {
     pub minutes: Minutes,
     pub state: u64,
     pub goal: bool,
-}
-
-#[derive(Clone, Copy)]
-pub enum Replayed {
-    Ran(Ended),
-    Refused(Refusal),
 }

@@ -1,153 +1,84 @@
 // The replay of a leader plan and then a follower plan: questions 9 to 12, both costs and the end state.
-ghost use Rattle.std.specs.Prelude.{◌≡◌, ◌<◌, take};
+ghost use Rattle.std.specs.Prelude.{◌≡◌, ◌≤◌, MatchResult};
 ghost use Rattle.strips.specs.Limits.{max_steps};
-ghost use Rattle.replay.specs.Replay.{known_steps, returned, replayed};
-ghost use Rattle.replay.specs.Run.{Advanced, Runnable, Stopped, Numbered};
+ghost use Rattle.replay.specs.Replay.{returned, replayed};
+ghost use Rattle.replay.specs.Run.{Runnable, Ran, Stuck, AllKnown, Unknown, Numbered};
 
-use crate::{Ended, Replayed};
-use outcome::{Minutes, Price, Refusal};
-use strips::{Action, MAX_FOLLOWER, MAX_STEPS, Task, applies, holds, is_valid, pad, successor};
+use crate::Ended;
+use outcome::{Cost, Minutes, Price, Refusal};
+use strips::{Action, MAX_STEPS, Task, applies, holds, is_valid, successor};
 
-// How many steps at the front of the plan are numbers of actions.
-fn known_steps(plan: &[u8], count: usize) -> usize
-    ensures { result ≡ known_steps count plan.now }
+// Question 11 for a plan whose steps are counted on from `earlier` ones.
+fn ask_known(count: usize, plan: &[u8], earlier: usize) -> Result<(), Refusal>
+    requires { earlier ≤ max_steps }
+    ensures { MatchResult result (λ _. AllKnown count plan.now) (Unknown count plan.now earlier) }
 {
-    let mut i = 0;
-    while i < plan.len() {
-        let k = plan[i] as usize;
-        if k < 1 {
-            return i;
+    for (i, k) in plan.iter().enumerate() {
+        if !(1..=count).contains(&usize::from(*k)) {
+            return Err(Refusal::UnknownAction(earlier + i + 1));
         }
-        if count < k {
-            return i;
-        }
-        i += 1;
     }
-    i
+    Ok(())
 }
 
-// Whose plan is run: the leader's costs a price, the follower's minutes.
+// How far a plan has been run: to which state, and at what cost of its own kind.
 #[derive(Clone, Copy)]
-pub enum Player {
-    Leader,
-    Follower,
-}
-
-// How far a plan has been run: how many steps, to which state, at what price or in how many minutes.
-#[derive(Clone, Copy)]
-pub struct Progress {
-    pub steps: usize,
+pub struct Progress<C> {
     pub state: u64,
-    pub price: Price,
-    pub minutes: Minutes,
+    pub cost: C,
 }
 
-// One step more, by an action of the player: its cost is added to the player's own kind.
-fn advance(at: Progress, player: Player, action: Action) -> Progress
-    requires { at.steps < max_steps }
-    ensures { Advanced player action at result }
-{
-    let steps = at.steps + 1;
-    let state = successor(action, at.state);
-    let mut price = at.price;
-    let mut minutes = at.minutes;
-    match player {
-        Player::Leader => price = price.plus(Price(action.cost)),
-        Player::Follower => minutes = minutes.plus(Minutes(action.cost)),
-    }
-    Progress {
-        steps,
-        state,
-        price,
-        minutes,
-    }
-}
-
-// Runs the plan up to its end or to the first step that does not apply.
-fn run(
-    player: Player,
-    actions: [Action; MAX_FOLLOWER],
-    count: usize,
+// Question 12, with what it finds: runs a plan whose steps are counted on from `earlier` ones.
+fn run<C: Cost>(
+    actions: &[Action],
     start: u64,
     plan: &[u8],
-) -> Progress
-    requires { Runnable actions count plan.now }
-    ensures { Stopped player (take count actions) start plan.now result }
+    earlier: usize,
+) -> Result<Progress<C>, Refusal>
+    requires runnable { Runnable actions.now plan.now }
+    requires earlier { earlier ≤ max_steps }
+    ensures { MatchResult result (Ran C.amount actions.now start plan.now) (Stuck actions.now start plan.now earlier) }
 {
-    let mut at = Progress {
-        steps: 0,
-        state: start,
-        price: Price(0),
-        minutes: Minutes(0),
-    };
-    while at.steps < plan.len() {
-        let i = at.steps;
-        let k = plan[i] as usize;
-        let action = actions[k - 1];
-        if !applies(action, at.state) {
-            return at;
+    let mut state = start;
+    let mut cost = C::of(0);
+    for (i, k) in plan.iter().enumerate() {
+        let action = actions[usize::from(*k) - 1];
+        if !applies(action, state) {
+            return Err(Refusal::NotApplicable(earlier + i + 1));
         }
-        at = advance(at, player, action);
+        state = successor(action, state);
+        cost = cost.plus(C::of(action.cost));
     }
-    at
+    Ok(Progress { state, cost })
 }
 
 // Question 12 and what a replay returns, where questions 9 to 11 have their yes.
-fn replay_known(task: Task, leader_plan: &[u8], follower_plan: &[u8]) -> Replayed
+fn replay_known(task: Task, leader_plan: &[u8], follower_plan: &[u8]) -> Result<Ended, Refusal>
     requires { Numbered task leader_plan.now follower_plan.now }
     ensures { returned result ≡ replayed task leader_plan.now follower_plan.now }
 {
-    let leader = task.leader;
-    let first = run(
-        Player::Leader,
-        pad(leader),
-        task.leader_count,
-        task.initial,
-        leader_plan,
-    );
-    if first.steps < leader_plan.len() {
-        return Replayed::Refused(Refusal::NotApplicable(first.steps + 1));
-    }
-    let follower = task.follower;
-    let second = run(
-        Player::Follower,
-        follower,
-        task.follower_count,
-        first.state,
-        follower_plan,
-    );
-    if second.steps < follower_plan.len() {
-        return Replayed::Refused(Refusal::NotApplicable(leader_plan.len() + second.steps + 1));
-    }
-    let price = first.price;
-    let minutes = second.minutes;
-    Replayed::Ran(Ended {
-        price,
-        minutes,
+    let leader = task.leader_actions();
+    let follower = task.follower_actions();
+    let first = run::<Price>(leader, task.initial, leader_plan, 0)?;
+    let second = run::<Minutes>(follower, first.state, follower_plan, leader_plan.len())?;
+    Ok(Ended {
+        price: first.cost,
+        minutes: second.cost,
         state: second.state,
         goal: holds(second.state, task.goal),
     })
 }
 
-pub fn replay(task: Task, leader_plan: &[u8], follower_plan: &[u8]) -> Replayed
+pub fn replay(task: Task, leader_plan: &[u8], follower_plan: &[u8]) -> Result<Ended, Refusal>
     ensures { returned result ≡ replayed task leader_plan.now follower_plan.now }
 {
     if !is_valid(task) {
-        return Replayed::Refused(Refusal::InvalidTask);
+        return Err(Refusal::InvalidTask);
     }
-    if MAX_STEPS < leader_plan.len() {
-        return Replayed::Refused(Refusal::PlanTooLong);
+    if MAX_STEPS < leader_plan.len() || MAX_STEPS < follower_plan.len() {
+        return Err(Refusal::PlanTooLong);
     }
-    if MAX_STEPS < follower_plan.len() {
-        return Replayed::Refused(Refusal::PlanTooLong);
-    }
-    let known = known_steps(leader_plan, task.leader_count);
-    if known < leader_plan.len() {
-        return Replayed::Refused(Refusal::UnknownAction(known + 1));
-    }
-    let known = known_steps(follower_plan, task.follower_count);
-    if known < follower_plan.len() {
-        return Replayed::Refused(Refusal::UnknownAction(leader_plan.len() + known + 1));
-    }
+    ask_known(task.leader_count, leader_plan, 0)?;
+    ask_known(task.follower_count, follower_plan, leader_plan.len())?;
     replay_known(task, leader_plan, follower_plan)
 }

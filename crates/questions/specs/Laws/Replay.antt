@@ -6,7 +6,7 @@ use Rattle.strips.specs.Limits.{max_steps}
 use Rattle.strips.specs.Choice.{pick}
 use Rattle.strips.specs.Deciders.{dec_valid}
 use Rattle.strips.specs.Task.{Valid, leader_actions, follower_actions}
-use Rattle.strips.specs.Laws.Padding.{leader_count, follower_count}
+use Rattle.strips.specs.Laws.Validity.{leader_count, follower_count}
 use Rattle.strips.specs.declared.Task.{Task}
 use Rattle.replay.specs.Replay.{Returned, refused, known_steps, applied_steps, end_state, replayed}
 use Rattle.replay.specs.Run.{Numbered}

@@ -1,28 +1,28 @@
 -- Question 8, slice by slice.
-use Rattle.std.specs.Prelude.{◌≡◌, refl, ℕ, ◌≤◌, ◌<◌, min}
-use Rattle.std.proofs.Math.Path.{sym}
-use Rattle.std.proofs.Common.{◌∙◌, ⊎_elim, arith}
+use Rattle.std.specs.Prelude.{◌≡◌, refl, ℕ, ◌+◌, ◌≤◌, ◌<◌, min, length, get_or, drop}
+use Rattle.std.proofs.Common.{ap, add-one, drop-cons, ⊎_elim, arith}
 use Rattle.std.proofs.Math.Logic.Dec
 use mathlib.Core.List.Memᴰ
 use mathlib.Core.List.{List, [], ◌∷◌, Memᴰ}
+use Rattle.std.proofs.Math.Seq.{drop-length}
 use Rattle.std.proofs.Math.Decide.{dec_le}
 use Rattle.strips.specs.Laws.Decision.{asked_yes, asked_no, asked_either}
 use Rattle.search.specs.Limits.{max_places}
 use Rattle.questions.specs.Size.{SizesAllowed, shortest, capacity}
 
--- one slice more, of n places
-module _ (n : ℕ) (sizes : List ℕ) where
-  pub size_wrong : ((1 ≤ n) × (n ≤ max_places) → ⊥) → 0 ≡ capacity (n ∷ sizes)
+-- a loop over the slices that has come to slice i
+module _ (sizes : List ℕ) (i : ℕ) (h : i < length sizes) where
+  pub size_wrong : ((1 ≤ get_or sizes i 0) × (get_or sizes i 0 ≤ max_places) → ⊥) → capacity (drop i sizes) ≡ 0
   unfolding capacity
-  size_wrong out = sym (asked_no (Dec.and (dec_le 1 n) (dec_le n max_places)) out 0 _)
+  size_wrong out = rw (drop-cons sizes i 0 h) (asked_no (Dec.and (dec_le 1 (get_or sizes i 0)) (dec_le (get_or sizes i 0) max_places)) out 0 _)
 
-  pub size_right : 1 ≤ n → n ≤ max_places → {m : ℕ} → m ≡ min n (capacity sizes) → m ≡ capacity (n ∷ sizes)
+  pub size_right : (1 ≤ get_or sizes i 0) × (get_or sizes i 0 ≤ max_places) → capacity (drop i sizes) ≡ min (get_or sizes i 0) (capacity (drop (i + 1) sizes))
   unfolding capacity
-  size_right h l e = e ∙ sym (asked_yes (Dec.and (dec_le 1 n) (dec_le n max_places)) (h, l) 0 _)
+  size_right r = rw (drop-cons sizes i 0 h, add-one i) (asked_yes (Dec.and (dec_le 1 (get_or sizes i 0)) (dec_le (get_or sizes i 0) max_places)) r 0 _)
 
-pub capacity_nil : capacity [] ≡ max_places
+pub size_end : (sizes : List ℕ) → capacity (drop (length sizes) sizes) ≡ max_places
 unfolding capacity
-capacity_nil = refl
+size_end sizes = ap capacity (drop-length sizes)
 
 -- what the number says
 data Said (sizes : List ℕ) (n : ℕ) : Type 0 where
@@ -63,3 +63,10 @@ pub shortest_small : (sizes : List ℕ) → shortest sizes ≤ max_places
 unfolding shortest
 shortest_small [] = omega arith
 shortest_small (k ∷ sizes) = omega (arith, shortest_small sizes)
+
+pub capacity_small : (sizes : List ℕ) → capacity sizes ≤ max_places
+capacity_small sizes = of (said sizes)
+  where
+    of : {n : ℕ} → Said sizes n → n ≤ max_places
+    of (allowed each f g) = omega (arith, shortest_small sizes)
+    of (not_allowed out f) = omega arith

@@ -1,34 +1,34 @@
 -- What a replay returns, case by case; and that it ran just where both plans run.
-use Rattle.std.specs.Prelude.{◌≡◌, List, ℕ, ◌+◌, ◌≤◌, ◌<◌, length}
-use Rattle.std.proofs.Common.{ap, ◌∙◌, arith}
+use Rattle.std.specs.Prelude.{◌≡◌, List, ℕ, ◌+◌, ◌≤◌, ◌<◌, length, take}
+use Rattle.std.proofs.Common.{ap, ◌∙◌, arith, length-take, get_or-take}
 use Rattle.std.proofs.Math.Decide.{ℕ_discrete, dec_le, dec_lt}
 use Rattle.strips.specs.Decision.{says}
 use Rattle.strips.specs.Limits.{max_steps}
 use Rattle.strips.specs.State.{dec_holds}
-use Rattle.strips.specs.Task.{Valid, leader_actions, follower_actions, padded}
+use Rattle.strips.specs.Task.{idle, Places, Valid, leader_actions, follower_actions}
 use Rattle.strips.specs.Plan.{cost, Runs}
 use Rattle.strips.specs.Laws.Decision.{asked_yes, asked_no}
 use Rattle.strips.specs.Deciders.{dec_valid}
-use Rattle.strips.specs.Laws.Padding.{padded_used, leader_count, follower_count}
+use Rattle.strips.specs.Laws.Validity.{leader_count, follower_count}
+use Rattle.strips.specs.declared.Action.{Action}
 use Rattle.strips.specs.declared.Task.{Task}
 use Rattle.replay.specs.Replay.{Returned, refused, ran, known_steps, applied_steps, end_state, ask_steps, replayed}
 use Rattle.replay.specs.Run.{Runnable, Numbered}
 use Rattle.replay.specs.Laws.Steps.{known_most, applied_most, passes_runs, runs_known, runs_applied, runs_end}
 
-pub leader_runnable : {t : Task} {p q : List ℕ} → Numbered t p q → Runnable (padded t.leader) t.leader_count p
-leader_runnable {t} n =
-    let places = n.valid.leader in
-    record {
-      room = omega (arith, places.room);
-      known = n.known_leader;
-      short = n.short_leader;
-      priced = λ i h. rw (padded_used t.leader places.long i (omega (arith, places.room))) (places.used i h).cost;
-    }
+-- of the places that a task uses, each holds an action that costs at most the limit
+runnable : {facts size n : ℕ} {places : List Action} {p : List ℕ} → Places facts size n places → known_steps n p ≡ length p → length p ≤ max_steps → Runnable (take n places) p
+runnable {n = n} {places = places} {p = p} v known short =
+    let count : length (take n places) ≡ n = omega (arith, length-take n places, v.long, v.room) in
+    record { known = rw count known; short = short; priced = λ i h. let l : i < n = omega arith in rw (get_or-take n places i idle l) (v.used i l).cost }
 
-pub follower_runnable : {t : Task} {p q : List ℕ} → Numbered t p q → Runnable t.follower t.follower_count q
-follower_runnable n =
-    let places = n.valid.follower in
-    record { room = places.room; known = n.known_follower; short = n.short_follower; priced = λ i h. (places.used i h).cost }
+pub leader_runnable : {t : Task} {p q : List ℕ} → Numbered t p q → Runnable (leader_actions t) p
+unfolding leader_actions
+leader_runnable n = runnable n.valid.leader n.known_leader n.short_leader
+
+pub follower_runnable : {t : Task} {p q : List ℕ} → Numbered t p q → Runnable (follower_actions t) q
+unfolding follower_actions
+follower_runnable n = runnable n.valid.follower n.known_follower n.short_follower
 
 -- a question put to each step
 module _ (n earlier : ℕ) (p : List ℕ) (passed : ℕ) (rest : Returned) where

@@ -1,23 +1,18 @@
 -- Plans step by step: how many steps pass a test, the state they lead to, and that a plan whose steps all pass runs.
 use Rattle.std.specs.Prelude.{◌≡◌, get_or, take, drop}
 use Rattle.std.proofs.Math.Path.{refl, ap}
-use Rattle.std.proofs.Common.{◌∙◌, add-one, drop-cons, take-suc, get_or-take}
+use Rattle.std.proofs.Common.{◌∙◌, add-one, drop-cons, take-suc}
 use mathlib.Core.List.{List, [], ◌∷◌, ◌++◌}
-use Prim.Native.Nat.{ℕ, zero, suc, ◌+◌, ◌-◌, ◌≤◌, ◌<◌}
+use Prim.Native.Nat.{ℕ, zero, suc, ◌+◌, ◌≤◌, ◌<◌}
 use native.Mathlib.Omega.{arith}
 use Rattle.std.proofs.Math.ListN.{length}
 use Rattle.std.proofs.Math.Seq.{drop-length}
 use Rattle.strips.specs.State.{Applies, dec_applies, after}
-use Rattle.strips.specs.Task.{idle}
 use Rattle.strips.specs.Plan.{Known, dec_known, action, cost, Runs, done, next}
 use Rattle.strips.specs.Laws.Decision.{asked_yes, asked_no}
 use Rattle.strips.specs.Laws.Order.{cost_snoc}
 use Rattle.strips.specs.declared.Action.{Action}
 use Rattle.replay.specs.Replay.{passing, known_steps, applied_steps, end_state}
-
--- the action of a known number, among all places
-pub action_take : (places : List Action) (n k : ℕ) → Known n k → action (take n places) k ≡ get_or places (k - 1) idle
-action_take places n k h = get_or-take n places (k - 1) idle (omega arith)
 
 module _ {P : ℕ → ℕ → Type 0} (test : (s k : ℕ) → Dec (P s k)) (step : ℕ → ℕ → ℕ) where
   first_passes : (s k : ℕ) (p : List ℕ) → P s k → passing test step s (k ∷ p) ≡ suc (passing test step (step s k) p)

@@ -1,13 +1,9 @@
 -- `replay::running::replay` meets its contract.
-use mathlib.Core.Path.{◌≡◌, sym, ap, ◌∙◌}
-use Prim.Native.Nat.{◌+◌}
-use native.Mathlib.Omega.{arith}
-use lib.ListN.{length}
-use Rattle.strips.specs.Task.{Valid}
+use Rattle.std.proofs.Common.{rules, ◌≡◌, Err, sym, inl, inr}
 use Rattle.strips.specs.Laws.Decision.{result_yes, result_no}
-use Rattle.replay.specs.Replay.{returned, refused, known_steps}
-use Rattle.replay.specs.Laws.Steps.{known_most}
-use Rattle.replay.specs.Laws.Replay.{refuses_9, refuses_10_leader, refuses_10_follower, refuses_11_leader, refuses_11_follower}
+use Rattle.replay.specs.Replay.{returned}
+use Rattle.replay.specs.Laws.Replay.{refuses_9, refuses_10_leader, refuses_10_follower}
+use Rattle.replay.proofs.Refused.{unknown_leader, unknown_follower}
 use Rattle.replay.proofs.running.replay.Goals as goal
 
 pub returns-then-not-is_valid : goal.returns-then-not-is_valid
@@ -17,43 +13,29 @@ returns-then-not-is_valid c = sym (refuses_9 _ _ _ (result_no _ c.is_valid.ensur
 pub returns-then-leader_plan-gt-MAX_STEPS : goal.returns-then-leader_plan-gt-MAX_STEPS
 unfolding returned
 returns-then-leader_plan-gt-MAX_STEPS c =
-    let valid : Valid c.args.task = result_yes _ c.is_valid.ensures c.if-not-is_valid.false in
-    sym (refuses_10_leader _ _ _ valid c.if-leader_plan-gt-MAX_STEPS.true)
+    let valid = result_yes _ c.is_valid.ensures c.if-not-is_valid.false in
+    elim c.then-leader_plan-gt-MAX_STEPS.either [
+      | inl h ↦ sym (refuses_10_leader _ _ _ valid h)
+      | inr h ↦ sym (refuses_10_follower _ _ _ valid h.0 h.1)
+    ]
 
-pub returns-then-follower_plan-gt-MAX_STEPS : goal.returns-then-follower_plan-gt-MAX_STEPS
-unfolding returned
-returns-then-follower_plan-gt-MAX_STEPS c =
-    let valid : Valid c.args.task = result_yes _ c.is_valid.ensures c.if-not-is_valid.false in
-    sym (refuses_10_follower _ _ _ valid c.if-leader_plan-gt-MAX_STEPS.false c.if-follower_plan-gt-MAX_STEPS.true)
+pub returns-in_err-ask_known : goal.returns-in_err-ask_known
+returns-in_err-ask_known c =
+    let valid = result_yes _ c.is_valid.ensures c.if-not-is_valid.false in
+    let e : c.from_residual.result ≡ Err c.in_err-ask_known.field-0.0 = search rules in
+    rw e (unknown_leader _ _ _ valid c.if-leader_plan-gt-MAX_STEPS.false c.if-follower_plan-gt-MAX_STEPS.false c.in_err-ask_known.ensures)
 
-pub returns-then-known-leader_plan : goal.returns-then-known-leader_plan
-unfolding returned
-returns-then-known-leader_plan c =
-    let valid : Valid c.args.task = result_yes _ c.is_valid.ensures c.if-not-is_valid.false in
-    let found = c.known_steps-known.ensures in
-    sym (refuses_11_leader _ _ _ valid c.if-leader_plan-gt-MAX_STEPS.false c.if-follower_plan-gt-MAX_STEPS.false (rw (← found) c.if-known-leader_plan.true) ∙ ap (λ k. refused 11 (k + 1)) (sym found))
-
-pub returns-then-known-follower_plan : goal.returns-then-known-follower_plan
-unfolding returned
-returns-then-known-follower_plan c =
-    let valid : Valid c.args.task = result_yes _ c.is_valid.ensures c.if-not-is_valid.false in
-    let leader_known : known_steps c.args.task.leader_count c.args.leader_plan.now ≡ length c.args.leader_plan.now = omega (arith, c.known_steps-known.ensures, known_most c.args.task.leader_count c.args.leader_plan.now) in
-    let found = c.known_steps-known-2.ensures in
-    let plan = c.args.leader_plan.now in
-    sym (refuses_11_follower _ _ _ valid c.if-leader_plan-gt-MAX_STEPS.false c.if-follower_plan-gt-MAX_STEPS.false leader_known (rw (← found) c.if-known-follower_plan.true)
-    ∙ ap (λ k. refused 11 (length plan + k + 1)) (sym found))
+pub returns-in_err-ask_known-2 : goal.returns-in_err-ask_known-2
+returns-in_err-ask_known-2 c =
+    let valid = result_yes _ c.is_valid.ensures c.if-not-is_valid.false in
+    let e : c.from_residual-in_err-ask_known-2.result ≡ Err c.in_err-ask_known-2.field-0.0 = search rules in
+    rw e (unknown_follower _ _ _ valid c.if-leader_plan-gt-MAX_STEPS.false c.if-follower_plan-gt-MAX_STEPS.false c.in_ok-ask_known.ensures c.in_err-ask_known-2.ensures)
 
 pub replay_known-requires : goal.replay_known-requires
-replay_known-requires c =
-    let valid : Valid c.args.task = result_yes _ c.is_valid.ensures c.if-not-is_valid.false in
-    let leader_known : known_steps c.args.task.leader_count c.args.leader_plan.now ≡ length c.args.leader_plan.now = omega (arith, c.known_steps-known.ensures, known_most c.args.task.leader_count c.args.leader_plan.now) in
-    record {
-      valid = valid;
-      short_leader = c.if-leader_plan-gt-MAX_STEPS.false;
-      short_follower = c.if-follower_plan-gt-MAX_STEPS.false;
-      known_leader = leader_known;
-      known_follower = omega (arith, c.known_steps-known-2.ensures, known_most c.args.task.follower_count c.args.follower_plan.now);
-    }
-
-pub returns : goal.returns
-returns c = c.replay_known.ensures
+replay_known-requires c = record {
+  valid = result_yes _ c.is_valid.ensures c.if-not-is_valid.false;
+  short_leader = c.if-leader_plan-gt-MAX_STEPS.false;
+  short_follower = c.if-follower_plan-gt-MAX_STEPS.false;
+  known_leader = c.in_ok-ask_known.ensures;
+  known_follower = c.in_ok-ask_known-2.ensures;
+}

@@ -1,38 +1,32 @@
 -- `replay::running::run` meets its contract. The loop's invariant is `Running`.
-use native.Mathlib.Omega.{arith}
-use lib.ListN.{get_or}
-use Rattle.strips.specs.Limits.{max_follower}
-use Rattle.strips.specs.Plan.{Known}
+use Rattle.std.proofs.Common.{arith, ◌≡◌, ◌-◌, length, get_or}
+use Rattle.strips.specs.State.{Applies}
+use Rattle.strips.specs.Task.{idle}
 use Rattle.strips.specs.Laws.Decision.{result_yes, result_no}
-use Rattle.replay.specs.Laws.Running.{running_start, step_known, running_more}
-use Rattle.replay.proofs.Stops.{running_ends, running_stops}
+use Rattle.replay.specs.Laws.Running.{running_start, step_known, running_more, running_stops, running_ends}
 use Rattle.replay.proofs.running.run.Goals as goal
 
-pub loop-at-init : goal.loop-at-init
-loop-at-init c = running_start _ _ _ _
+pub loop-i-init : goal.loop-i-init
+loop-i-init g c = running_start _ _ _ c.of-cost.ensures
 
 pub overflow_sub-action : goal.overflow_sub-action
-overflow_sub-action c =
-    let known : Known max_follower (get_or c.args.plan.now c.loop-at.at.steps 0) = step_known c.requires c.loop-at-test.true in
-    omega (arith, known)
+overflow_sub-action g c = omega (arith, step_known c.requires.runnable c.loop-i-test.true)
 
-pub offset_bounds-actions-k : goal.offset_bounds-actions-k
-offset_bounds-actions-k c =
-    let known : Known max_follower (get_or c.args.plan.now c.loop-at.at.steps 0) = step_known c.requires c.loop-at-test.true in
-    omega (arith, known)
-
-pub bounds-actions-k : goal.bounds-actions-k
-bounds-actions-k c =
-    let known : Known max_follower (get_or c.args.plan.now c.loop-at.at.steps 0) = step_known c.requires c.loop-at-test.true in
-    omega (arith, known)
+pub bounds-actions-from : goal.bounds-actions-from
+bounds-actions-from g c = omega (arith, step_known c.requires.runnable c.loop-i-test.true)
 
 pub returns-then-not-applies : goal.returns-then-not-applies
-returns-then-not-applies c = running_stops c.requires c.loop-at.invariant c.loop-at-test.true (result_no _ c.applies.ensures c.if-not-applies.true)
+returns-then-not-applies g c =
+    let failed : Applies (get_or c.args.actions.now (c.from.result - 1) idle) c.loop-i.state → ⊥ = result_no _ c.applies.ensures c.if-not-applies.true in
+    running_stops c.requires.runnable c.loop-i-test.true c.loop-i.invariant c.args.earlier (rw c.from.ensures at failed)
 
-pub loop-at-preserved : goal.loop-at-preserved
-loop-at-preserved c =
-    running_more c.requires c.loop-at.invariant c.loop-at-test.true (result_yes _ c.applies.ensures c.if-not-applies.false)
-    c.advance-at.ensures
+pub loop-i-preserved : goal.loop-i-preserved
+loop-i-preserved g c =
+    let applied : Applies (get_or c.args.actions.now (c.from.result - 1) idle) c.loop-i.state = result_yes _ c.applies.ensures c.if-not-applies.false in
+    rw (c.successor-state.ensures, c.from.ensures)
+    (running_more c.requires.runnable c.loop-i-test.true c.loop-i.invariant (rw c.from.ensures at applied) (rw (c.of.ensures, c.from.ensures) at c.plus-cost.ensures))
 
 pub returns : goal.returns
-returns c = running_ends c.loop-at.invariant c.loop-at-test.false
+returns g c =
+    let whole : c.loop-i.i ≡ length c.args.plan.now = omega arith in
+    running_ends _ _ _ _ _ (rw whole at c.loop-i.invariant)
