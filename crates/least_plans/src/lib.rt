@@ -2,11 +2,9 @@
 // number. The first way to a row is its least plan, and rows are met in the order of their plans: no two plans are compared.
 #![tactic(auto)]
 
+mod links;
 mod pass;
 mod plan;
 
 pub use pass::find_plans;
 pub use plan::{rank, write_plan};
-
-// A link is (rank * MAX_PLACES + parent row) * LINK_BASE + action; 0 for none, and for the source.
-const LINK_BASE: usize = 64;

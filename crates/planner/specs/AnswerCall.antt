@@ -1,17 +1,19 @@
 -- What the answer call promises (document 01: the answer after an outage plan).
-use Rattle.std.specs.Prelude.{List, [], ◌∷◌, ◌++◌, ℕ, length}
+use Rattle.std.specs.Prelude.{List, [], ◌∷◌, ◌++◌, ℕ, length, Result, Ok, Err}
 use Rattle.strips.specs.Task.{leader_actions}
 use Rattle.strips.specs.declared.Task.{Task}
 use Rattle.outcome.specs.Answer.{Value, minutes, value_of}
 use Rattle.outcome.specs.Refusal.{number_of, place_of}
+use Rattle.outcome.specs.declared.Refusal.{Refusal}
 use Rattle.replay.specs.Replay.{end_state}
 use Rattle.search.specs.Response.{Response}
 use Rattle.questions.specs.Lent.{Lent}
-use Rattle.questions.specs.Memory.{memory, none, workspace}
+use Rattle.questions.specs.Memory.{memory, none}
+use Rattle.questions.specs.Workspace.{slices_in}
+use Rattle.questions.specs.declared.workspace.Workspace.{Workspace}
 use Rattle.questions.specs.Record.{record_asks}
 use Rattle.questions.specs.Call.{Call, Returned, Promise}
 use Rattle.planner.specs.declared.Answered.{Answered}
-use Rattle.planner.specs.declared.Answered.TheVariants.{Found, Refused}
 
 abbrev pub answer_asks : List ℕ
 answer_asks = 8 ∷ record_asks ++ 10 ∷ 11 ∷ 12 ∷ 13 ∷ 15 ∷ []
@@ -39,10 +41,10 @@ answer_call t leader_plan = record {
   zero = record { answer = minutes 0; steps = 0 };
 }
 
-abbrev pub AnswerCall : Task → List ℕ → Lent (List ℕ) → (index links table : Lent (List (List ℕ))) → Lent (List ℕ) → Returned AnswerSteps → Type 0
-AnswerCall t leader_plan states index links table plan = Promise (answer_call t leader_plan) (memory (workspace states index links table) none plan none)
+abbrev pub AnswerCall : Task → List ℕ → Lent Workspace → Lent (List ℕ) → Returned AnswerSteps → Type 0
+AnswerCall t leader_plan work plan = Promise (answer_call t leader_plan) (memory (slices_in work) none plan none)
 
 -- what is returned, as number, place, answer and steps
-abbrev pub returned : Answered → Returned AnswerSteps
-returned (Found a steps) = record { number = 0; place = 0; values = record { answer = value_of a; steps = steps } }
-returned (Refused q) = record { number = number_of q; place = place_of q; values = record { answer = minutes 0; steps = 0 } }
+abbrev pub returned : Result Answered Refusal → Returned AnswerSteps
+returned (Ok a) = record { number = 0; place = 0; values = record { answer = value_of a.answer; steps = a.steps } }
+returned (Err q) = record { number = number_of q; place = place_of q; values = record { answer = minutes 0; steps = 0 } }

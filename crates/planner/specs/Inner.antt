@@ -2,6 +2,7 @@
 pub mod Columns
 pub mod Weights
 pub mod Searches
+pub mod First
 pub mod Goal
 pub mod Response
 pub mod Answer

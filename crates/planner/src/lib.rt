@@ -2,6 +2,7 @@
 #![tactic(auto)]
 
 mod answer_call;
+mod first;
 mod goal;
 mod reading;
 mod response;
@@ -9,16 +10,16 @@ mod searches;
 mod weights;
 
 pub use answer_call::best_response;
-use outcome::{Answer, Refusal};
+use outcome::Answer;
 pub use reading::{
     answer, leader_steps, note, price, put_note, rank, response_steps, settled_row,
     write_leader_plan, write_response,
 };
 pub use searches::solve;
 
-// The answer and the number of steps of its plan, or the first question that gets no.
+// The answer, and the number of steps of its plan: document 01 hands back both, 0 steps where the answer is none, and compares answers without them.
 #[derive(Clone, Copy)]
-pub enum Answered {
-    Found(Answer, usize),
-    Refused(Refusal),
+pub struct Answered {
+    pub answer: Answer,
+    pub steps: usize,
 }

@@ -7,18 +7,16 @@ ghost use Rattle.planner.specs.Reading.{leader_plan_at, price_at, follower_plan_
 
 use least_plans::write_plan;
 use outcome::{Answer, Minutes, Price};
+use responses::{action_of_hop, row_of_hop};
 use rows::{HOP, KEY, NOTE, ORDER, VALUE, WORDS, get, put};
-use search::KEY_BASE;
-
-// A hop is a row and an action in one number.
-const HOP_BASE: u64 = 64;
+use search::{cost_of_key, steps_of_key};
 
 // What the leader plan of row i costs.
 pub fn price(rows: &[[u64; WORDS]], i: usize) -> Price
     requires { Readable rows.now i }
     ensures { result.0 ≡ price_at rows.now i }
 {
-    Price(((get(rows, i, KEY) - 1) / KEY_BASE) as u32)
+    Price(cost_of_key(get(rows, i, KEY) - 1))
 }
 
 // The answer of the state of row i.
@@ -26,11 +24,8 @@ pub fn answer(rows: &[[u64; WORDS]], i: usize) -> Answer
     requires { Readable rows.now i }
     ensures { value_of result ≡ answer_at rows.now i }
 {
-    let value = get(rows, i, VALUE);
-    if value == 0 {
-        return Answer::None;
-    }
-    Answer::Cost(Minutes(((value - 1) / KEY_BASE) as u32))
+    let key = get(rows, i, VALUE).checked_sub(1)?;
+    Some(Minutes(cost_of_key(key)))
 }
 
 // How many steps the leader plan of row i has.
@@ -38,7 +33,7 @@ pub fn leader_steps(rows: &[[u64; WORDS]], i: usize) -> usize
     requires { Readable rows.now i }
     ensures { (result ≡ length (leader_plan_at rows.now i)) × (result < max_places) }
 {
-    ((get(rows, i, KEY) - 1) % KEY_BASE) as usize
+    steps_of_key(get(rows, i, KEY) - 1)
 }
 
 // How many steps the best response of row i has; 0 where there is none.
@@ -46,11 +41,7 @@ pub fn response_steps(rows: &[[u64; WORDS]], i: usize) -> usize
     requires { Readable rows.now i }
     ensures { (result ≡ length (follower_plan_at rows.now i)) × (result < max_places) }
 {
-    let value = get(rows, i, VALUE);
-    if value == 0 {
-        return 0;
-    }
-    ((value - 1) % KEY_BASE) as usize
+    steps_of_key(get(rows, i, VALUE).saturating_sub(1))
 }
 
 // Leader plans of one price are in the order of their ranks.
@@ -84,12 +75,10 @@ pub fn write_response(rows: &[[u64; WORDS]], i: usize, plan: &mut [u8]) -> usize
 {
     let steps = response_steps(rows, i);
     let mut x = i;
-    let mut k = 0;
-    while k < steps {
+    for k in 0..steps {
         let hop = get(rows, x, HOP);
-        plan[k] = (hop % HOP_BASE) as u8;
-        x = (hop / HOP_BASE) as usize;
-        k += 1;
+        plan[k] = action_of_hop(hop);
+        x = row_of_hop(hop);
     }
     steps
 }

@@ -2,6 +2,8 @@
 #![tactic(auto)]
 
 mod goals;
+mod hops;
 mod values;
 
+pub use hops::{action_of_hop, hop_to, row_of_hop};
 pub use values::find_values;

@@ -1,12 +1,39 @@
-// Not for outsiders. Slices of rows of words: words read and stored, rows cleared. Word c of every row is column c.
+// Not for outsiders. Slices of rows of words: words read, stored and listed. Word c of every row is column c.
 #![tactic(auto)]
 
-mod buckets;
 mod links;
-mod numbers;
 mod words;
 
-pub use buckets::{BUCKET_WORDS, clear_buckets, get_bucket, put_bucket};
-pub use links::{LINK_WORDS, clear_links, get_link, list_links, put_link};
-pub use numbers::clear_numbers;
-pub use words::{HEAP, HOP, KEY, LINK, NOTE, ORDER, PLACE, VALUE, WORDS, clear_words, get, put};
+pub use links::{LIST_PLACES, link_to, linked_row, list_links};
+pub use words::{Word, get, put};
+
+// A row of the searches: 64-bit words. C lends a row as so many words, so its columns are numbers of words and no fields of a struct; and since a word is a number,
+// one that may have none is 0 then, and else 1 more than what it has.
+pub const WORDS: usize = 8;
+
+// Its columns. Key, link and order are the forward search's, value and hop the backward search's; both have places and heap. Notes are free for whoever
+// reads what the searches leave.
+pub const KEY: usize = 0;
+
+pub const LINK: usize = 1;
+
+pub const ORDER: usize = 2;
+
+pub const VALUE: usize = 3;
+
+pub const HOP: usize = 4;
+
+pub const NOTE: usize = 5;
+
+pub const PLACE: usize = 6;
+
+pub const HEAP: usize = 7;
+
+// The transitions of a row, by action: 16-bit words.
+pub const LINK_WORDS: usize = 64;
+
+// Where transitions are kept as chains, the first half of a row has their heads, and the second, from here, each one's next older link.
+pub const OLDER_LINKS: usize = LINK_WORDS / 2;
+
+// A place of a hash table, its heads and link: 16-bit words.
+pub const BUCKET_WORDS: usize = 4;

@@ -1,58 +1,34 @@
-// Rows of eight 64-bit words: the columns of the searches.
-ghost use Rattle.std.specs.Prelude.{◌≡◌, ◌<◌, length, get_or, set, replicate};
-ghost use Rattle.rows.specs.Columns.{col, Stored};
-ghost use Rattle.rows.specs.Cleared.{everywhere};
+// Words of rows: read and stored, whatever the words are and however many a row has.
+ghost use Rattle.std.specs.Prelude.{◌≡◌, ◌<◌, length, get_or};
+ghost use Rattle.rows.specs.Columns.{column, StoredIn};
 
-pub const WORDS: usize = 8;
+// The words of a row: numbers. What a row without such a word has in its place is 0.
+pub trait Word: Copy {
+    ghost nothing: { Self };
+}
 
-// The columns. Key, link and order are the forward search's, value and hop the backward search's; both have places and heap. Notes are free for whoever
-// reads what the searches leave.
-pub const KEY: usize = 0;
+impl Word for u16 {
+    ghost nothing = { 0 };
+}
 
-pub const LINK: usize = 1;
-
-pub const ORDER: usize = 2;
-
-pub const VALUE: usize = 3;
-
-pub const HOP: usize = 4;
-
-pub const NOTE: usize = 5;
-
-pub const PLACE: usize = 6;
-
-pub const HEAP: usize = 7;
+impl Word for u64 {
+    ghost nothing = { 0 };
+}
 
 // Word c of row i.
-pub fn get(rows: &[[u64; WORDS]], i: usize, c: usize) -> u64
-    requires { (i < length rows.now) × (c < 8) }
-    ensures { result ≡ get_or (col c rows.now) i 0 }
+pub fn get<T: Word, const N: usize>(rows: &[[T; N]], i: usize, c: usize) -> T
+    requires { (i < length rows.now) × (c < N) }
+    ensures { result ≡ get_or (column T.nothing c rows.now) i T.nothing }
 {
-    rows[i][c]
+    let row: &[T] = &rows[i];
+    row[c]
 }
 
-fn put_word(row: &mut [u64], c: usize, v: u64)
-    requires { c < length row.old }
-    ensures { row.new ≡ set row.old c v }
+// Stores word c of row i.
+pub fn put<T: Word, const N: usize>(rows: &mut [[T; N]], i: usize, c: usize, v: T)
+    requires { (i < length rows.old) × (c < N) }
+    ensures { StoredIn T.nothing rows.old i c v rows.new }
 {
+    let row: &mut [T] = &mut rows[i];
     row[c] = v;
-}
-
-// Stores word c of row i. The row is lent: only then is it known how many words it has.
-pub fn put(rows: &mut [[u64; WORDS]], i: usize, c: usize, v: u64)
-    requires { (i < length rows.old) × (c < 8) }
-    ensures { Stored rows.old i c v rows.new }
-{
-    put_word(&mut rows[i], c, v);
-}
-
-// Clears all rows.
-pub fn clear_words(rows: &mut [[u64; WORDS]])
-    ensures { rows.new ≡ everywhere (replicate 8 0) rows.old }
-{
-    let mut i = 0;
-    while i < rows.len() {
-        rows[i] = [0; WORDS];
-        i += 1;
-    }
 }

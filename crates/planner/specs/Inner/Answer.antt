@@ -1,13 +1,16 @@
 -- The stages of the answer call, after the questions about record and plans.
-use Rattle.std.specs.Prelude.{◌≡◌, List, [], ◌∷◌, map, ℕ, ◌-◌, ◌≤◌, length}
+use Rattle.std.specs.Prelude.{◌≡◌, List, [], ◌∷◌, ℕ, length, Option, Result, IfSome, IfOk}
 use Rattle.strips.specs.Task.{Valid, leader_actions}
 use Rattle.strips.specs.declared.Task.{Task}
 use Rattle.outcome.specs.Answer.{Value, minutes}
+use Rattle.outcome.specs.declared.Refusal.{Refusal}
 use Rattle.replay.specs.Replay.{end_state}
 use Rattle.search.specs.Reachable.{Reach}
 use Rattle.questions.specs.Lent.{Lent, over}
 use Rattle.questions.specs.Size.{shortest}
-use Rattle.questions.specs.Memory.{Room, memory, none, workspace, cleared}
+use Rattle.questions.specs.Memory.{Room, memory, none}
+use Rattle.questions.specs.Workspace.{sizes_of, slices_in}
+use Rattle.questions.specs.declared.workspace.Workspace.{Workspace}
 use Rattle.questions.specs.Call.{Returned, Asks, Stage, refused, done}
 use Rattle.planner.specs.AnswerCall.{AnswerSteps, answer_call}
 use Rattle.planner.specs.Searches.{Spacious}
@@ -38,28 +41,24 @@ AnswerAsked t p sizes plan r =
     Asks (answer_call t p) response_asks (plan_room sizes plan.before) (λ q. (r ≡ refused (answer_call t p) q) × (plan.after ≡ plan.before))
     (λ a. (r ≡ done (answer_call t p) a) × (plan.after ≡ over a.plan plan.before))
 
--- a row that is 1 + a row of R has a plan
-abbrev pub PlanReady : List (List ℕ) → ℕ → Type 0
-PlanReady R row = 1 ≤ row → row ≤ length R → PlanRow R (row - 1)
+-- a row that was found has a plan
+abbrev pub PlanReady : List (List ℕ) → Result (Option ℕ) Refusal → Type 0
+PlanReady R found = IfOk found (λ row. IfSome row (PlanRow R))
 
 -- whatever task and leader plan the row was searched for
-abbrev pub RowAnswered : List (List ℕ) → ℕ → Lent (List ℕ) → Returned AnswerSteps → Type 0
-RowAnswered R row plan r =
-    (t : Task) (p sizes : List ℕ) → shortest sizes ≡ length R → ResponseEnd t (end_state (leader_actions t) t.initial p) (length R) R row
+abbrev pub RowAnswered : List (List ℕ) → Result (Option ℕ) Refusal → Lent (List ℕ) → Returned AnswerSteps → Type 0
+RowAnswered R found plan r =
+    (t : Task) (p sizes : List ℕ) → shortest sizes ≡ length R → ResponseEnd t (end_state (leader_actions t) t.initial p) (length R) R found
     → AnswerAsked t p sizes plan r
 
--- the four working slices are cleared
-abbrev pub WorkspaceCleared : Lent (List ℕ) → (X L R : Lent (List (List ℕ))) → Type 0
-WorkspaceCleared S X L R = (workspace S X L R).after ≡ map cleared (workspace S X L R).before
-
 -- n places for the reach of a task, to which s belongs
-pub record Searching (t : Task) (s n : ℕ) (S : List ℕ) (X L R : List (List ℕ)) : Type 0 where
+pub record Searching (t : Task) (s n : ℕ) (w : Workspace) : Type 0 where
   pub valid : Valid t
   pub reach : Reach t s
-  pub spacious : Spacious n S X L R
-  pub shortest : n ≡ shortest (length S ∷ length X ∷ length L ∷ length R ∷ [])
+  pub spacious : Spacious n w
+  pub shortest : n ≡ shortest (sizes_of w)
 
 -- the last stage, after a leader plan that leads to s
-abbrev pub AnswerStage : Task → ℕ → Lent (List ℕ) → (X L R : Lent (List (List ℕ))) → Lent (List ℕ) → Returned AnswerSteps → Type 0
-AnswerStage t s S X L R plan r =
-    (p : List ℕ) → s ≡ end_state (leader_actions t) t.initial p → Stage (answer_call t p) response_asks (memory (workspace S X L R) none plan none) r
+abbrev pub AnswerStage : Task → ℕ → Lent Workspace → Lent (List ℕ) → Returned AnswerSteps → Type 0
+AnswerStage t s work plan r =
+    (p : List ℕ) → s ≡ end_state (leader_actions t) t.initial p → Stage (answer_call t p) response_asks (memory (slices_in work) none plan none) r

@@ -1,5 +1,5 @@
 -- The questions of the answer call: those about places, record and plans, and the stage after them.
-use Rattle.std.specs.Prelude.{◌≡◌, refl, Bool, List, [], ◌++◌, map, ℕ, leb}
+use Rattle.std.specs.Prelude.{◌≡◌, refl, Bool, List, [], ◌++◌, map, ℕ, leb, Ok, Err}
 use Rattle.std.proofs.Common.{sym, ◌∙◌, arith, leb-true}
 use Rattle.std.proofs.Math.Path.{ap}
 use Rattle.strips.specs.Task.{Valid, leader_actions}
@@ -12,11 +12,9 @@ use Rattle.replay.specs.Replay.{refused, ran, end_state, replayed}
 use Rattle.replay.specs.Replay as replay
 use Rattle.replay.specs.Laws.Replay.{BothRun, replayed_runs}
 use Rattle.replay.specs.declared.Ended.{Ended}
-use Rattle.replay.specs.declared.Replayed.{Replayed}
-use Rattle.replay.specs.declared.Replayed.TheVariants.{Ran}
-use Rattle.replay.specs.declared.Replayed.TheVariants as replayed
 use Rattle.search.specs.Reachable.{Reach}
 use Rattle.search.specs.Laws.Reachable.{reach_leader}
+use Rattle.rows.specs.Laws.Cleared.{everywhere_same, zeros_same}
 use Rattle.questions.specs.Lent.{Lent, over}
 use Rattle.questions.specs.Size.{SizesAllowed}
 use Rattle.questions.specs.Memory.{Slice, Memory, is_one_of, before_use, cleared, places, nothing, leaves, memory}
@@ -27,19 +25,21 @@ use Rattle.questions.specs.Call.{Returned, Ends, place, Stage, Promise}
 use Rattle.questions.specs.Call as call
 use Rattle.questions.specs.Laws.Asked.{asked_map, each_by}
 use Rattle.questions.specs.Laws.Replay.{plans_asks, replay_asked}
+use Rattle.questions.specs.Laws.Workspace.{from_to, four_cleared}
+use Rattle.questions.specs.Workspace.{slices_in, SameSlices}
+use Rattle.questions.specs.declared.workspace.Workspace.{Workspace}
 use Rattle.planner.specs.AnswerCall.{AnswerSteps, answer_call, returned}
-use Rattle.planner.specs.declared.Answered.TheVariants.{Refused}
 use Rattle.planner.specs.Inner.Answer.{response_asks, slice, refusal, AnswerAsked}
 
 -- what a replay returned
-module _ (t : Task) (p : List ℕ) {r : Replayed} (g : replay.returned r ≡ replayed t p []) where
-  pub told_ran : {e : Ended} → r ≡ Ran e → ran e.price.0 e.minutes.0 e.state e.goal ≡ replayed t p []
+module _ (t : Task) (p : List ℕ) where
+  pub told_ran : {e : Ended} → replay.returned (Ok e) ≡ replayed t p [] → ran e.price.0 e.minutes.0 e.state e.goal ≡ replayed t p []
   unfolding replay.returned
-  told_ran f = rw f at g
+  told_ran g = g
 
-  pub told_refused : {q : Refusal} → r ≡ replayed.Refused q → refused (number_of q) (place_of q) ≡ replayed t p []
+  pub told_refused : (q : Refusal) → replay.returned (Err q) ≡ replayed t p [] → refused (number_of q) (place_of q) ≡ replayed t p []
   unfolding replay.returned
-  told_refused f = rw f at g
+  told_refused q g = g
 
 -- a replay ran: the plan leads to this state
 module _ (t : Task) (p : List ℕ) {price cost s : ℕ} {goal : Bool} (e : ran price cost s goal ≡ replayed t p []) where
@@ -69,6 +69,14 @@ module _ (slices : Lent (List Slice)) (plan : Lent (List ℕ)) (e : slices.after
       (λ z. record { returns = z.0; leaves = left [] z.1 }, (λ z. record { returns = z.0; leaves = left [] z.1 }, tt))
       (λ d. record { it = d.it; found = d.found; holds = record { returns = d.holds.0; leaves = left d.it.plan d.holds.1 } })
 
+-- the same, where a search has kept the slices, and they have been cleared then
+pub stage_cleared : {w w₁ : Workspace} → SameSlices (from_to w w₁) → {after : List Slice} → after ≡ map cleared (slices_in (from_to w₁ w₁)).before
+    → {plan : Lent (List ℕ)} (t : Task) (p : List ℕ) {r : Returned AnswerSteps}
+    → AnswerAsked t p (map places (slices_in (from_to w w)).before) plan r
+    → Stage (answer_call t p) response_asks (memory (record { before = (slices_in (from_to w w)).before; after = after }) lent.none plan lent.none) r
+stage_cleared {w} same e = answer_stage _ _ (e ∙ four_cleared w.states.now w.index.now w.links.now w.rows.now (zeros_same _ _ same.state_places)
+    (everywhere_same _ _ _ same.index_places) (everywhere_same _ _ _ same.link_places) (everywhere_same _ _ _ same.row_places))
+
 -- what is returned and left where a replay says that question n gets no
 abbrev RefusedBy : Task → List ℕ → Lent Memory → Returned AnswerSteps → ℕ → Type 0
 RefusedBy t p m r n =
@@ -88,10 +96,10 @@ module _ (t : Task) (p : List ℕ) (slices : List Slice) (plan : List ℕ) where
 
   -- questions 9 to 12
   pub replay_refused : SizesAllowed (map places slices) → (q : Refusal) → refused (number_of q) (place_of q) ≡ replayed t p []
-      → Promise (answer_call t p) untouched (returned (Refused q))
+      → Promise (answer_call t p) untouched (returned (Err q))
   replay_refused ok q e = yes_to {q = 8} ok (replay_asked (answer_call t p) _
       (λ z. absurd (omega (arith, number_some q, ap (λ (r : replay.Returned). r.number) e, z)))
-      (each_by {P = RefusedBy t p untouched (returned (Refused q))} (λ n. is_one_of n before_use)
+      (each_by {P = RefusedBy t p untouched (returned (Err q))} (λ n. is_one_of n before_use)
       (λ n h f. record {
         returns = ap (λ (r : replay.Returned). record { number = r.number; place = r.place; values = record { answer = minutes 0; steps = 0 } }) (e ∙ f);
         leaves = rw h refl;

@@ -1,33 +1,20 @@
 -- `planner::answer_call::answer_row` meets its contract.
-use native.Mathlib.Omega.{arith}
+use Rattle.std.proofs.Common.{◌≡◌, ◌-◌, ap, arith, rules, Err}
 use Rattle.planner.specs.Laws.Answer.{states_refused, none_answered, plan_refused, plan_written}
 use Rattle.planner.proofs.answer_call.answer_row.Goals as goal
 
-pub returns-then-rows-row : goal.returns-then-rows-row
-returns-then-rows-row c = states_refused _ _ c.if-rows-row.true
+pub returns-in_err-row : goal.returns-in_err-row
+returns-in_err-row c =
+    let e : c.from_residual.result ≡ Err c.in_err-row.field-0.0 = search rules in
+    rw (c.in_err-row.was, e) (states_refused _ _)
 
-pub returns-then-row-eq0 : goal.returns-then-row-eq0
-returns-then-row-eq0 c = none_answered _ _ c.if-row-eq0.true
-
-pub overflow_sub-key : goal.overflow_sub-key
-overflow_sub-key c =
-    let plan_row = c.requires (omega arith) (omega arith) in
-    omega (arith, c.get-key.ensures, plan_row.met)
+pub returns-in_default : goal.returns-in_default
+returns-in_default c = rw (c.in_ok-row.was, c.in_default.is) (none_answered _)
 
 pub returns-then-plan-steps : goal.returns-then-plan-steps
-returns-then-plan-steps c = plan_refused _ _ (omega arith) (omega arith) c.get-key.ensures _ c.if-plan-steps.true
-
-pub write_plan-requires : goal.write_plan-requires
-write_plan-requires c =
-    let w = c.requires (omega arith) (omega arith) in
-    (w.met, w.walkable, rw c.get-key.ensures at c.if-plan-steps.false)
-
-pub overflow_cast-result : goal.overflow_cast-result
-overflow_cast-result c =
-    let plan_row = c.requires (omega arith) (omega arith) in
-    omega (arith, rw (← c.get-key.ensures) at plan_row.small)
+returns-then-plan-steps c = rw (c.in_ok-row.was, c.in-Some.is) (plan_refused _ _ (ap (λ k. k - 1) c.get-key.ensures) _ (omega (arith, c.if-plan-steps.true, c.steps_of_key-steps.ensures)))
 
 pub returns : goal.returns
 returns c =
     let written = c.write_plan.ensures in
-    plan_written _ _ (omega arith) (omega arith) c.get-key.ensures _ c.if-plan-steps.false written.0 written.1
+    rw (c.in_ok-row.was, c.in-Some.is, c.cost_of_key.ensures, c.steps_of_key-steps.ensures) (plan_written _ _ (ap (λ k. k - 1) c.get-key.ensures) _ (omega (arith, c.if-plan-steps.false, c.steps_of_key-steps.ensures)) written.0 written.1)

@@ -1,29 +1,37 @@
 -- `planner::answer_call::best_response` meets its contract.
+use Rattle.std.proofs.Common.{◌≡◌, arith, rules, Err}
 use Rattle.questions.specs.Laws.Size.{capacity_none, capacity_some}
 use Rattle.planner.specs.Laws.Workspace.{spacious}
 use Rattle.planner.specs.Laws.Questions.{told_ran, told_refused, ran_state, ran_valid, ran_reach, sizes_refused, replay_refused, replay_ran}
 use Rattle.planner.proofs.answer_call.best_response.Goals as goal
 
-pub returns-then-n-lt1 : goal.returns-then-n-lt1
-returns-then-n-lt1 c = sizes_refused _ _ _ _ (capacity_none _ c.places-n.ensures c.if-n-lt1.true)
+pub returns-in_err-n-clause-promise : goal.returns-in_err-n-clause-promise
+returns-in_err-n-clause-promise c =
+    let e : c.from_residual.result ≡ Err c.in_err-n.field-0.0 = search rules in
+    let size = c.in_err-n.ensures in
+    rw (e, size.1) (sizes_refused _ _ _ _ (capacity_none _ size.0 (omega arith)))
+
+pub returns-in_err-end-clause-promise : goal.returns-in_err-end-clause-promise
+returns-in_err-end-clause-promise c =
+    let a = c.args in
+    let e : c.from_residual-in_err-end.result ≡ Err c.in_err-end.field-0.0 = search rules in
+    let size = c.in_ok-n.ensures in
+    rw e (replay_refused _ _ _ _ (capacity_some _ size.1 size.0).0 _ (told_refused a.task a.leader_plan.now _ c.in_err-end.ensures))
 
 pub respond-requires : goal.respond-requires
 respond-requires c =
     let a = c.args in
-    let ran = told_ran a.task a.leader_plan.now c.replay-replayed.ensures c.in-Ran.is in record {
+    let ran = told_ran a.task a.leader_plan.now c.in_ok-end.ensures in
+    let size = c.in_ok-n.ensures in record {
       valid = ran_valid _ _ ran;
       reach = ran_reach _ _ ran;
-      spacious = spacious _ _ _ _ c.places-n.ensures c.if-n-lt1.false;
-      shortest = (capacity_some _ c.places-n.ensures c.if-n-lt1.false).1;
+      spacious = spacious a.work.now size.1 size.0;
+      shortest = (capacity_some _ size.1 size.0).1;
     }
 
-pub returns-in-Refused : goal.returns-in-Refused
-returns-in-Refused c =
+pub returns-clause-promise : goal.returns-clause-promise
+returns-clause-promise c =
     let a = c.args in
-    replay_refused _ _ _ _ (capacity_some _ c.places-n.ensures c.if-n-lt1.false).0 c.in-Refused.refusal (told_refused a.task a.leader_plan.now c.replay-replayed.ensures c.in-Refused.is)
-
-pub returns-in-Ran : goal.returns-in-Ran
-returns-in-Ran c =
-    let a = c.args in
-    let ran = told_ran a.task a.leader_plan.now c.replay-replayed.ensures c.in-Ran.is in
-    replay_ran _ _ _ (capacity_some _ c.places-n.ensures c.if-n-lt1.false).0 ran (c.respond.ensures a.leader_plan.now (ran_state _ _ ran))
+    let ran = told_ran a.task a.leader_plan.now c.in_ok-end.ensures in
+    let size = c.in_ok-n.ensures in
+    replay_ran _ _ _ (capacity_some _ size.1 size.0).0 ran (c.respond.ensures.answered a.leader_plan.now (ran_state _ _ ran))
