@@ -4,6 +4,7 @@ pub mod Text
 pub mod Value
 pub mod Deciders
 pub mod Lines
+pub mod Fields
 pub mod Parse
 pub mod Render
 pub mod Laws

@@ -1,5 +1,6 @@
 -- Texts are lists of bytes; a text is lines, and a list is parts.
 use Rattle.std.specs.Prelude.{Bool, true, false, List, [], ◌∷◌, ℕ, eqb}
+use Rattle.std.specs.List.{position_or_len, before_first, after_first}
 use Prim.Native.Char.{code}
 use Prim.Native.String.{String, [] as no_more, ◌∷◌ as ◌then◌}
 use Rattle.strips.specs.Choice.{pick}
@@ -32,6 +33,17 @@ split c end (b ∷ t) = let rest = split c end t in pick (eqb b c) ([] ∷ rest)
 -- lines are ended by newlines: a line is there while a byte is left
 abbrev pub lines : List ℕ → List (List ℕ)
 lines = split newline []
+
+-- how many bytes stand before the first newline
+abbrev pub line_end : List ℕ → ℕ
+line_end t = position_or_len (λ b. eqb b newline) t
+
+-- the bytes before the first newline, and those behind it
+abbrev pub first_line : List ℕ → List ℕ
+first_line text = before_first (λ b. eqb b newline) text
+
+abbrev pub behind_line : List ℕ → List ℕ
+behind_line text = after_first (λ b. eqb b newline) text
 
 -- the parts of a list are parted by commas: there is one more of them than there are commas
 abbrev pub parts : List ℕ → List (List ℕ)

@@ -1,4 +1,4 @@
--- What the contracts of this crate mean; `Laws` has what is proved about them.
-pub mod Reading
+-- What the reader's contracts mean; `Laws` has what is proved about them.
 pub mod Line
+pub mod Reading
 pub mod Laws

@@ -1,28 +1,29 @@
--- A line part way through a text.
-use Rattle.std.specs.Prelude.{◌≡◌, Bool, true, false, List, [], ◌∷◌, ℕ, ◌+◌, ◌≤◌, eqb, ltb, length, drop}
+-- A text's first line, and what it adds to the record of the lines before it.
+use Rattle.std.specs.Prelude.{◌≡◌, List, ℕ, ◌+◌, ◌≤◌, ◌<◌, length}
+use Rattle.outcome.specs.Refusal.{number_of, place_of}
+use Rattle.outcome.specs.declared.Refusal.{Refusal}
 use Rattle.strips.specs.Limits.{max_facts, max_leader, max_follower}
 use Rattle.strips.specs.declared.Task.{Task}
-use Rattle.strips.specs.Choice.{pick}
-use Rattle.task_format.specs.Text.{newline, begins, lines}
-use Rattle.task_format.specs.Lines.{kind_of, action_of, Room}
-use Rattle.task_format.specs.Parse.{follow, zeros}
-use Rattle.task_format.specs.Laws.Text.{up_to, behind}
+use Rattle.task_format.specs.Text.{lines}
+use Rattle.task_format.specs.Lines.{kind_of, last_line, action_of, Room, stored}
+use Rattle.task_format.specs.Parse.{refused, follow, zeros}
 use Rattle.task_format.specs.declared.Kind.{Kind}
-use Rattle.value_reader.specs.Scan.{Good, Goes, AtMost}
-use Rattle.value_reader.specs.declared.values.Scan.{Scan}
+use Rattle.task_format.specs.declared.Kind.TheVariants.{Number, FactList}
 
--- the length of the key where the text begins with it, and else 0
-unfoldable pub matched : List ℕ → List ℕ → ℕ
-matched key t = pick (begins key t) (length key) 0
+-- a number is not above the upper bound of its kind
+abbrev pub AtMost : Kind → ℕ → Type 0
+AtMost (Number low high) x = x ≤ high
+AtMost (FactList most) x = Unit {0}
 
--- the line goes on
-unfoldable pub goes_on : List ℕ → Bool
-goes_on [] = false
-goes_on (b ∷ t) = pick (eqb b newline) false true
+-- the first line of the text, which is line n and due, says x; `rest` is behind it
+pub record Says (facts n : ℕ) (text : List ℕ) (x : ℕ) (rest : List ℕ) : Type 0 where
+  pub small : AtMost (kind_of facts n) x
+  pub shorter : length rest < length text
+  pub goes : (t : Task) → t.facts ≡ facts → n ≤ last_line t → follow (lines text) n t ≡ follow (lines rest) (n + 1) (stored t n x)
 
--- the position behind a newline at `at`, or `at` where the text ends
-abbrev pub past : List ℕ → ℕ → ℕ
-past text at = pick (ltb at (length text)) (at + 1) at
+-- at the first line of the text, which is line n and due, a question gets no
+abbrev pub Stops : ℕ → ℕ → List ℕ → Refusal → Type 0
+Stops facts n text q = (t : Task) → t.facts ≡ facts → n ≤ last_line t → follow (lines text) n t ≡ refused (number_of q) (place_of q)
 
 -- x fits the field of line n
 pub record Storable (t : Task) (n x : ℕ) : Type 0 where
@@ -36,17 +37,8 @@ pub record Small (t : Task) : Type 0 where
   pub leader : t.leader_count ≤ max_leader
   pub follower : t.follower_count ≤ max_follower
 
--- the loop over lines: the record so far holds the lines before line n, and those from position `at` on are still to be read
-pub record OnLine (text : List ℕ) (t : Task) (n at : ℕ) : Type 0 where
-  pub inside : at ≤ length text
+-- the loop over lines: the record so far holds the lines before line n, and `rest` is still to be read
+pub record OnLine (text : List ℕ) (t : Task) (n : ℕ) (rest : List ℕ) : Type 0 where
   pub one : 1 ≤ n
   pub small : Small t
-  pub goes : follow (lines text) 1 zeros ≡ follow (lines (drop at text)) n t
-
--- the loop over the bytes of the value from position `start` on
-pub record OnValue (text : List ℕ) (start : ℕ) (kind : Kind) (at : ℕ) (s : Scan) : Type 0 where
-  pub inside : at ≤ length text
-  pub later : start ≤ at
-  pub good : Good s
-  pub goes : Goes kind (up_to (drop start text)) s (up_to (drop at text))
-  pub behind : behind (drop start text) ≡ behind (drop at text)
+  pub goes : follow (lines text) 1 zeros ≡ follow (lines rest) n t

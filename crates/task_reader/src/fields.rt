@@ -1,93 +1,51 @@
 // The fields of the record, by lines.
 ghost use Rattle.std.specs.Prelude.{◌≡◌, ◌≤◌};
 ghost use Rattle.strips.specs.Limits.{max_cost};
+ghost use Rattle.task_format.specs.Fields.{remainder};
 ghost use Rattle.task_format.specs.Lines.{Room, with_part, with_action, stored};
-ghost use Rattle.task_format.specs.Parse.{zeros};
 ghost use Rattle.task_reader.specs.Line.{Storable};
 
-use strips::{Action, MAX_FOLLOWER, MAX_LEADER, Task};
+use strips::{Action, Task};
+use task_format::{Field, Part, field_at};
 
-pub fn zeros() -> Task
-    ensures { result ≡ zeros }
+#[tactic(auto, unfolding(task_format::specs::Lines::with_part))]
+fn store_part(action: &mut Action, part: Part, x: u64)
+    requires { remainder part ≡ 2 → x ≤ max_cost }
+    ensures { action.new ≡ with_part action.old (remainder part) x }
 {
-    let idle = Action {
-        cost: 0,
-        precondition: 0,
-        delete: 0,
-        add: 0,
-    };
-    Task {
-        facts: 0,
-        initial: 0,
-        goal: 0,
-        leader_count: 0,
-        follower_count: 0,
-        leader: [idle; MAX_LEADER],
-        follower: [idle; MAX_FOLLOWER],
+    match part {
+        Part::Cost => action.cost = x as u32,
+        Part::Precondition => action.precondition = x,
+        Part::Delete => action.delete = x,
+        Part::Add => action.add = x,
     }
 }
 
-fn store_part(action: Action, remainder: usize, x: u64) -> Action
-    requires { remainder ≡ 2 → x ≤ max_cost }
-    ensures { result ≡ with_part action remainder x }
+// Stores x in a field of the action numbered i, leader before follower.
+#[tactic(auto, using(crate::specs::Laws::Fields::leader_part, crate::specs::Laws::Fields::follower_part))]
+fn store_action(task: &mut Task, i: usize, part: Part, x: u64)
+    requires { Room task.old i × (remainder part ≡ 2 → x ≤ max_cost) }
+    ensures { task.new ≡ with_action task.old i (remainder part) x }
 {
-    let mut r = action;
-    match remainder {
-        2 => r.cost = x as u32,
-        3 => r.precondition = x,
-        0 => r.delete = x,
-        _ => r.add = x,
+    if i < task.leader_count {
+        store_part(&mut task.leader[i], part, x);
+        return;
     }
-    r
+    store_part(&mut task.follower[i - task.leader_count], part, x);
 }
 
-// The task with x in a field of the action numbered i, leader before follower.
-fn store_action(task: Task, i: usize, remainder: usize, x: u64) -> Task
-    requires { Room task i × (remainder ≡ 2 → x ≤ max_cost) }
-    ensures { result ≡ with_action task i remainder x }
+// Stores x in the field of a line.
+#[tactic(auto, unfolding(task_format::specs::Lines::stored))]
+pub fn store(task: &mut Task, line: usize, x: u64)
+    requires { Storable task.old line x }
+    ensures { task.new ≡ stored task.old line x }
 {
-    let mut r = task;
-    let count = task.leader_count;
-    if i < count {
-        let action = task.leader[i];
-        let stored = store_part(action, remainder, x);
-        r.leader[i] = stored;
-        return r;
-    }
-    let j = i - count;
-    let action = task.follower[j];
-    let stored = store_part(action, remainder, x);
-    r.follower[j] = stored;
-    r
-}
-
-// The task with x in the field of a line.
-pub fn store(task: Task, line: usize, x: u64) -> Task
-    requires { Storable task line x }
-    ensures { result ≡ stored task line x }
-{
-    let mut r = task;
-    match line {
-        1 => {
-            r.facts = x as u32;
-            return r;
-        }
-        2 => {
-            r.initial = x;
-            return r;
-        }
-        3 => {
-            r.goal = x;
-            return r;
-        }
-        4 => {
-            r.leader_count = x as usize;
-            return r;
-        }
-        5 => {
-            r.follower_count = x as usize;
-            return r;
-        }
-        _ => return store_action(task, (line - 6) / 4, line % 4, x),
+    match field_at(line) {
+        Field::Facts => task.facts = x as u32,
+        Field::Initial => task.initial = x,
+        Field::Goal => task.goal = x,
+        Field::LeaderCount => task.leader_count = x as usize,
+        Field::FollowerCount => task.follower_count = x as usize,
+        Field::Action(i, part) => store_action(task, i, part, x),
     }
 }

@@ -1,104 +1,60 @@
 // The lines of a text, one after the other.
-ghost use Rattle.std.specs.Prelude.{◌≡◌, ◌≤◌, length, drop};
+ghost use Rattle.std.specs.Prelude.{◌≡◌, ◌≤◌, IfOk, IfErr};
+ghost use Rattle.strips.specs.Limits.{max_facts};
 ghost use Rattle.task_format.specs.Parse.{follow, zeros};
-ghost use Rattle.task_format.specs.Text.{lines};
-ghost use Rattle.task_reader.specs.Line.{goes_on, past};
-ghost use Rattle.task_reader.specs.Reading.{tidied, accepts, end_verdict};
+ghost use Rattle.task_format.specs.Text.{first_line, behind_line, lines};
+ghost use Rattle.task_reader.specs.Line.{Says, Stops};
+ghost use Rattle.task_reader.specs.Reading.{returned};
 
-use crate::Reading;
-use crate::fields::{store, zeros};
-use crate::keys::key_length;
-use outcome::{Refusal, Verdict};
-use task_format::{kind_of, last_line};
-use value_reader::{begin, finish, step};
+use crate::fields::store;
+use outcome::Refusal;
+use strips::Task;
+use task_format::{key_of, kind_of, last_line};
+use value_reader::read_value;
 
-// Whether the line goes on at `at`.
-fn goes_on(text: &[u8], at: usize) -> bool
-    requires { at ≤ length text.now }
-    ensures { result ≡ goes_on (drop at text.now) }
+// The first line of a text, without its newline, and the text behind it.
+fn cut(text: &[u8]) -> (&[u8], &[u8])
+    ensures { (result.0.now ≡ first_line text.now) × (result.1.now ≡ behind_line text.now) }
 {
-    if text.len() <= at {
-        return false;
-    }
-    if text[at] == b'\n' {
-        return false;
-    }
-    true
-}
-
-// The position behind the line that ends at `at`.
-fn next_line(text: &[u8], at: usize) -> usize
-    requires { at ≤ length text.now }
-    ensures { result ≡ past text.now at }
-{
-    if at < text.len() {
-        return at + 1;
-    }
-    at
-}
-
-// Question 7: whether the text ends at `end`, behind the line before `line`.
-fn at_end(text: &[u8], end: usize, line: usize) -> Verdict
-    requires { end ≤ length text.now }
-    ensures { result ≡ end_verdict (drop end text.now) line }
-{
-    if text.len() <= end {
-        return Verdict::Accepted;
-    }
-    Verdict::Refused(Refusal::TextGoesOn(line))
-}
-
-fn is_accepted(verdict: Verdict) -> bool
-    ensures { result ≡ accepts verdict }
-{
-    match verdict {
-        Verdict::Accepted => true,
-        Verdict::Refused(_) => false,
+    match text.iter().position(|byte| *byte == b'\n') {
+        Some(end) => (&text[..end], &text[end + 1..]),
+        None => (text, &text[text.len()..]),
     }
 }
 
-// Questions 2 to 7, up to the first that gets no, and the task read so far.
-pub fn read_lines(text: &[u8]) -> Reading
-    ensures { tidied result ≡ follow (lines text.now) 1 zeros }
+// What the record is to hold of a text's first line, which is `line` of a file with so many facts, and the text behind it.
+fn read_line(text: &[u8], line: usize, facts: u32) -> Result<(u64, &[u8]), Refusal>
+    requires { facts ≤ max_facts }
+    ensures ok { IfOk result (λ r. Says facts line text.now r.0 r.1.now) }
+    ensures err { IfErr result (λ refusal. Stops facts line text.now refusal) }
 {
-    let n = text.len();
-    let mut task = zeros();
-    let mut line: usize = 1;
-    let mut at: usize = 0;
-    let mut verdict = Verdict::Accepted;
-    'lines: loop {
-        if last_line(task) < line {
-            verdict = at_end(text, at, line);
-            break 'lines;
-        }
-        if n <= at {
-            verdict = Verdict::Refused(Refusal::LineMissing(line));
-            break 'lines;
-        }
-        let key = key_length(text, at, line);
-        if key == 0 {
-            verdict = Verdict::Refused(Refusal::WrongKey(line));
-            break 'lines;
-        }
-        at += key;
-        let kind = kind_of(line, task.facts);
-        let mut scan = begin();
-        while goes_on(text, at) {
-            scan = step(scan, text[at], kind);
-            if !scan.formed {
-                verdict = Verdict::Refused(Refusal::Malformed(line));
-                break 'lines;
-            }
-            at += 1;
-        }
-        let value = finish(scan, kind, line);
-        verdict = value.verdict;
-        if !is_accepted(verdict) {
-            break 'lines;
-        }
-        task = store(task, line, value.content);
-        at = next_line(text, at);
+    if text.is_empty() {
+        return Err(Refusal::LineMissing(line));
+    }
+    let (front, rest) = cut(text);
+    let value = front
+        .strip_prefix(key_of(line))
+        .ok_or(Refusal::WrongKey(line))?;
+    let content = read_value(value, kind_of(line, facts), line)?;
+    Ok((content, rest))
+}
+
+// Questions 2 to 7, up to the first that gets no.
+pub fn read_lines(text: &[u8]) -> Result<Task, Refusal>
+    ensures { returned result ≡ follow (lines text.now) 1 zeros }
+{
+    let mut task = Task::default();
+    let mut line = 1;
+    let mut rest = text;
+    // Which line is the last is known only when lines 4 and 5 have been read, so the lines are no range.
+    while line <= last_line(task) {
+        let (content, behind) = read_line(rest, line, task.facts)?;
+        store(&mut task, line, content);
+        rest = behind;
         line += 1;
     }
-    Reading { verdict, task }
+    if !rest.is_empty() {
+        return Err(Refusal::TextGoesOn(line));
+    }
+    Ok(task)
 }

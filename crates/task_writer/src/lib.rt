@@ -2,46 +2,50 @@
 #![tactic(auto)]
 
 mod fields;
-mod keys;
 mod lines;
 mod numbers;
 
+ghost use Rattle.std.specs.Prelude.{◌≡◌, ◌≤◌, length};
 ghost use Rattle.strips.specs.Task.{Valid};
-ghost use Rattle.task_writer.specs.Written.{Wrote, WroteValid};
+ghost use Rattle.task_format.specs.Render.{render};
+ghost use Rattle.task_writer.specs.Written.{over, Wrote, WroteValid};
 
 use lines::put_lines;
 use outcome::Refusal;
 use strips::{Task, is_valid};
 use task_format::MAX_TEXT;
-use text_output::put_bytes;
+use text_output::put_in;
 
-// How many bytes were written, or the question that got no.
-#[derive(Clone, Copy)]
-pub enum Written {
-    Bytes(usize),
-    Refused(Refusal),
+// The text of a valid task at the front of a slice, and how many bytes it has.
+#[tactic(auto, using(text_output::specs::Laws::Puts::put_over))]
+fn write_text(task: Task, text: &mut [u8]) -> usize
+    requires { Valid task × (length (render task) ≤ length text.old) }
+    ensures bytes { result ≡ length (render task) }
+    ensures text { text.new ≡ over (render task) text.old }
+{
+    put_in(text, |out| put_lines(out, task))
 }
 
 // Question 16 of a valid task. The text is made first, in bytes of its own: where it does not fit, nothing lent is written.
-fn write_valid(task: Task, out: &mut [u8]) -> Written
+fn write_valid(task: Task, out: &mut [u8]) -> Result<usize, Refusal>
     requires { Valid task }
     ensures { WroteValid task out.old out.new result }
 {
     let mut text = [0u8; MAX_TEXT];
-    let n = put_lines(&mut text, task);
+    let n = write_text(task, &mut text);
     if out.len() < n {
-        return Written::Refused(Refusal::OutputTooLong);
+        return Err(Refusal::OutputTooLong);
     }
-    put_bytes(out, 0, &text[..n]);
-    Written::Bytes(n)
+    out[..n].copy_from_slice(&text[..n]);
+    Ok(n)
 }
 
-// The text of a task in the first bytes of `out`. After a refusal `out` is as it was.
-pub fn write(task: Task, out: &mut [u8]) -> Written
+// The text of a task in the first bytes of `out`, and how many they are, or the question that got no. After a refusal `out` is as it was.
+pub fn write(task: Task, out: &mut [u8]) -> Result<usize, Refusal>
     ensures { Wrote task out.old out.new result }
 {
     if !is_valid(task) {
-        return Written::Refused(Refusal::InvalidTask);
+        return Err(Refusal::InvalidTask);
     }
     write_valid(task, out)
 }

@@ -1,40 +1,36 @@
-// Numbers and lists of facts, written.
-ghost use Rattle.std.specs.Prelude.{true, ◌+◌, ◌≤◌, eqb, length};
+// Lists of facts, written.
+ghost use Rattle.std.specs.Prelude.{true, ◌≤◌};
 ghost use Rattle.strips.specs.Limits.{max_facts};
 ghost use Rattle.task_format.specs.Render.{facts_of, listed};
-ghost use Rattle.text_output.specs.Puts.{Puts};
+ghost use Rattle.text_output.specs.Puts.{HasRoom, Puts};
 ghost use Rattle.task_writer.specs.Puts.{member_text};
 
-use task_format::MAX_DIGITS;
-use text_output::put_digits;
+use text_output::Output;
 
-// Fact i, if the set's lowest bit is one; with a comma in front unless it is the first of the list that starts at `start`.
-fn put_member(out: &mut [u8], start: usize, at: usize, i: u32, set: u64) -> usize
-    requires { (i ≤ max_facts) × (at + length (member_text (eqb at start) i set) ≤ length out.old) }
-    ensures { Puts (member_text (eqb at start) i set) at out.old out.new result }
+// A fact of a list, behind a comma unless it is the first.
+#[tactic(auto, using(crate::specs::Laws::Puts::five_digits))]
+fn put_member(out: &mut Output<'_>, first: bool, fact: u32)
+    requires { (fact ≤ max_facts) × HasRoom (member_text first fact) out.old }
+    ensures { Puts (member_text first fact) out.old out.new }
 {
-    if set % 2 != 1 {
-        return at;
+    if !first {
+        out.put_byte(b',');
     }
-    if at == start {
-        return put_digits(out, at, i, MAX_DIGITS);
-    }
-    out[at] = b',';
-    put_digits(out, at + 1, i, MAX_DIGITS)
+    out.put_digits(fact);
 }
 
 // The facts of a set among the first `facts`.
-pub fn put_list(out: &mut [u8], start: usize, facts: u32, set: u64) -> usize
-    requires { (facts ≤ max_facts) × (start + length (listed true (facts_of facts 1 set)) ≤ length out.old) }
-    ensures { Puts (listed true (facts_of facts 1 set)) start out.old out.new result }
+pub fn put_list(out: &mut Output<'_>, facts: u32, set: u64)
+    requires { (facts ≤ max_facts) × HasRoom (listed true (facts_of facts 1 set)) out.old }
+    ensures { Puts (listed true (facts_of facts 1 set)) out.old out.new }
 {
-    let mut at = start;
-    let mut i: u32 = 1;
+    let mut first = true;
     let mut rest = set;
-    while i <= facts {
-        at = put_member(out, start, at, i, rest);
-        rest = rest / 2;
-        i += 1;
+    for fact in 1..=facts {
+        if rest % 2 == 1 {
+            put_member(out, first, fact);
+            first = false;
+        }
+        rest /= 2;
     }
-    at
 }

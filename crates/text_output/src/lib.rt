@@ -1,35 +1,64 @@
-// Not for outsiders. Bytes put into a lent slice, one run behind the other. Each function returns the place behind what it put.
+// Not for outsiders. Bytes put into a lent slice, one run behind the other.
 #![tactic(auto)]
 
-ghost use Rattle.std.specs.Prelude.{◌+◌, ◌^◌, ◌≤◌, ◌<◌, length};
+ghost use Rattle.std.specs.Prelude.{[], ◌∷◌, ◌+◌, ◌≤◌, length};
 ghost use Rattle.task_format.specs.Render.{digits_of};
-ghost use Rattle.text_output.specs.Puts.{number_digits, Puts};
+ghost use Rattle.text_output.specs.Puts.{number_digits, HasRoom, Begun, Puts};
+ghost use Rattle.text_output.specs.Filling.{MayPut, HasPut};
 
-// The most digits of a 32-bit number.
-pub const NUMBER_DIGITS: u32 = 10;
-
-pub fn put_bytes(out: &mut [u8], at: usize, bytes: &[u8]) -> usize
-    requires { at + length bytes.now ≤ length out.old }
-    ensures { Puts bytes.now at out.old out.new result }
-{
-    let mut i = 0;
-    while i < bytes.len() {
-        out[at + i] = bytes[i];
-        i += 1;
-    }
-    at + i
+// A lent slice, and the place behind the bytes that were put there.
+#[derive(Drop)]
+pub struct Output<'a> {
+    pub bytes: &'a mut [u8],
+    pub end: usize,
 }
 
-// The digits of n, of which there are at most k.
-pub fn put_digits(out: &mut [u8], at: usize, n: u32, k: u32) -> usize
-    requires { (1 ≤ k) × ((k ≤ number_digits) × ((n < 10 ^ k) × (at + length (digits_of k n) ≤ length out.old))) }
-    ensures { Puts (digits_of k n) at out.old out.new result }
-{
-    if n < 10 {
-        out[at] = (48 + n) as u8;
-        return at + 1;
+impl<'a> Output<'a> {
+    // The slice from its first place on.
+    pub fn new(bytes: &'a mut [u8]) -> Output<'a>
+        ensures { Begun bytes.entry result }
+    {
+        Output { bytes, end: 0 }
     }
-    let end = put_digits(out, at, n / 10, k - 1);
-    out[end] = (48 + n % 10) as u8;
-    end + 1
+
+    pub fn put_byte(&mut self, byte: u8)
+        requires { HasRoom (byte ∷ []) self.old }
+        ensures { Puts (byte ∷ []) self.old self.new }
+    {
+        self.bytes[self.end] = byte;
+        self.end += 1;
+    }
+
+    pub fn put_bytes(&mut self, bytes: &[u8])
+        requires { HasRoom bytes.now self.old }
+        ensures { Puts bytes.now self.old self.new }
+    {
+        let end = self.end + bytes.len();
+        let part = &mut self.bytes[self.end..end];
+        part.copy_from_slice(bytes);
+        self.end = end;
+    }
+
+    // The digits of n, which are those of any count that n does not exceed.
+    pub fn put_digits(&mut self, n: u32)
+        requires { HasRoom (digits_of number_digits n) self.old }
+        ensures { Puts (digits_of number_digits n) self.old self.new }
+    {
+        if n < 10 {
+            self.put_byte(b'0' + n as u8);
+            return;
+        }
+        self.put_digits(n / 10);
+        self.put_byte(b'0' + (n % 10) as u8);
+    }
+}
+
+// What `put` puts at the front of a slice, and how many bytes it is.
+pub fn put_in<F: FnOnce(&mut Output<'_>)>(bytes: &mut [u8], put: F) -> usize
+    requires may { MayPut F.FnOnce put bytes.old }
+    ensures { HasPut F.FnOnce put bytes.old bytes.new result }
+{
+    let mut out = Output::new(bytes);
+    put(&mut out);
+    out.end
 }

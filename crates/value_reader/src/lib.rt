@@ -1,6 +1,6 @@
-// Not for outsiders. A line's value, read byte by byte, and the verdict of the questions about it.
+// Not for outsiders. A line's value, read: the questions about it, and what the record is to hold of it.
 #![tactic(auto)]
 
 mod values;
 
-pub use values::{Scan, Value, begin, finish, step};
+pub use values::read_value;

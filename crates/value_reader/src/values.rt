@@ -1,208 +1,96 @@
-// A line's value, read byte by byte.
-ghost use Rattle.std.specs.Prelude.{◌≡◌, ◌≤◌, ◌<◌};
-ghost use Rattle.task_format.specs.Limits.{max_digits};
-ghost use Rattle.task_format.specs.Value.{IsDigit, Modest};
-ghost use Rattle.task_format.specs.Text.{comma};
+// A line's value, read.
+ghost use Rattle.std.specs.Prelude.{◌≡◌, ◌^◌, ◌≤◌, ◌<◌, IfOk, IfSome, IfNone};
 ghost use Rattle.strips.specs.Limits.{max_facts};
-ghost use Rattle.value_reader.specs.Scan.{begun, broken, longer, Good, Stepped, Closed, Finished, refused_value, taken_value};
+ghost use Rattle.task_format.specs.Value.{IsNumber, decimal, Modest};
+ghost use Rattle.value_reader.specs.Answered.{Answered};
+ghost use Rattle.value_reader.specs.Members.{Joined};
 
-use outcome::{Refusal, Verdict};
+use outcome::Refusal;
 use task_format::{Kind, MAX_DIGITS};
 
-// What the bytes read so far amount to. Of the number that is being read: its value and how many digits it has.
-// Of the members before it: the last, their set, and whether each is in its range and they rise.
+// The number that the bytes say, where they have the form of one.
+fn number(bytes: &[u8]) -> Option<u32>
+    ensures some { IfSome result (λ n. IsNumber bytes.now × (n ≡ decimal bytes.now)) }
+    ensures none { IfNone result (IsNumber bytes.now → ⊥) }
+{
+    if bytes.is_empty() || (MAX_DIGITS as usize) < bytes.len() {
+        return None;
+    }
+    if bytes[0] == b'0' && bytes.len() != 1 {
+        return None;
+    }
+    let mut n = 0;
+    for byte in bytes {
+        if !byte.is_ascii_digit() {
+            return None;
+        }
+        n = n * 10 + u32::from(*byte - b'0');
+    }
+    Some(n)
+}
+
+// The members of a list so far, which rise: the last of them, or 0, which is below each fact, and their set.
 #[derive(Clone, Copy)]
-pub struct Scan {
-    pub number: u32,
-    pub digits: u32,
-    pub first: bool,
-    pub last: u32,
-    pub set: u64,
-    pub formed: bool,
-    pub in_range: bool,
-    pub rising: bool,
+struct Members {
+    last: u32,
+    set: u64,
 }
 
-// What the record is to hold of a value, where no question gets no.
-#[derive(Clone, Copy)]
-pub struct Value {
-    pub verdict: Verdict,
-    pub content: u64,
-}
-
-pub fn begin() -> Scan
-    ensures { result ≡ begun }
+// The members with one more, or the first of questions 5 and 6 that gets no.
+fn join(
+    members: Result<Members, Refusal>,
+    member: u32,
+    most: u32,
+    line: usize,
+) -> Result<Members, Refusal>
+    requires { (most ≤ max_facts) × IfOk members (λ before. before.set < 2 ^ before.last) }
+    ensures { Joined most line members member result }
 {
-    Scan {
-        number: 0,
-        digits: 0,
-        first: true,
-        last: 0,
-        set: 0,
-        formed: true,
-        in_range: true,
-        rising: true,
+    if member < 1 || most < member {
+        return Err(Refusal::OutOfRange(line));
     }
+    let before = members?;
+    if member <= before.last {
+        return Err(Refusal::NotRising(line));
+    }
+    Ok(Members {
+        last: member,
+        set: before.set + (1 << (member - 1)),
+    })
 }
 
-fn fail(scan: Scan) -> Scan
-    ensures { result ≡ broken scan }
+fn read_list(value: &[u8], most: u32, line: usize) -> Result<u64, Refusal>
+    requires { most ≤ max_facts }
+    ensures { Answered (Kind.FactList most) value.now line result }
 {
-    let mut r = scan;
-    r.formed = false;
-    r
+    if value.is_empty() {
+        return Ok(0);
+    }
+    let mut members = Ok(Members { last: 0, set: 0 });
+    for part in value.split(|byte| *byte == b',') {
+        let member = number(part).ok_or(Refusal::Malformed(line))?;
+        members = join(members, member, most, line);
+    }
+    Ok(members?.set)
 }
 
-fn append(scan: Scan, byte: u8) -> Scan
-    requires { IsDigit byte × (scan.digits < max_digits) × Good scan }
-    ensures { result ≡ longer scan byte }
+fn read_number(value: &[u8], low: u32, high: u32, line: usize) -> Result<u64, Refusal>
+    ensures { Answered (Kind.Number low high) value.now line result }
 {
-    let mut r = scan;
-    r.number = scan.number * 10 + (byte as u32 - 48);
-    r.digits = scan.digits + 1;
-    r
+    let n = number(value).ok_or(Refusal::Malformed(line))?;
+    if n < low || high < n {
+        return Err(Refusal::OutOfRange(line));
+    }
+    Ok(u64::from(n))
 }
 
-// A digit more: malformed where there would be more than five, or a leading zero.
-fn digit(scan: Scan, byte: u8) -> Scan
-    requires { IsDigit byte × Good scan }
-    ensures { (kind : Kind) → Stepped kind scan byte result }
-{
-    if MAX_DIGITS <= scan.digits {
-        return fail(scan);
-    }
-    if scan.digits != 0 {
-        if scan.number == 0 {
-            return fail(scan);
-        }
-        return append(scan, byte);
-    }
-    append(scan, byte)
-}
-
-// The number that is being read becomes a member.
-fn close(scan: Scan, most: u32) -> Scan
-    requires { (most ≤ max_facts) × Good scan }
-    ensures { Closed most scan result }
-{
-    let mut r = scan;
-    r.number = 0;
-    r.digits = 0;
-    r.first = false;
-    if scan.number < 1 {
-        r.in_range = false;
-        return r;
-    }
-    if most < scan.number {
-        r.in_range = false;
-        return r;
-    }
-    if scan.number <= scan.last {
-        r.rising = false;
-        return r;
-    }
-    r.last = scan.number;
-    if !scan.in_range {
-        return r;
-    }
-    if !scan.rising {
-        return r;
-    }
-    r.set = scan.set + (1u64 << (scan.number - 1));
-    r
-}
-
-fn part(scan: Scan, most: u32) -> Scan
-    requires { (most ≤ max_facts) × Good scan }
-    ensures { Stepped (Kind.FactList most) scan comma result }
-{
-    if scan.digits == 0 {
-        return fail(scan);
-    }
-    close(scan, most)
-}
-
-// A byte more of the value: a digit, or in a list a comma.
-pub fn step(scan: Scan, byte: u8, kind: Kind) -> Scan
-    requires { Modest kind × Good scan }
-    ensures { Stepped kind scan byte result }
-{
-    if byte == b',' {
-        match kind {
-            Kind::Number(_, _) => return fail(scan),
-            Kind::FactList(most) => return part(scan, most),
-        }
-    }
-    if byte < b'0' {
-        return fail(scan);
-    }
-    if b'9' < byte {
-        return fail(scan);
-    }
-    digit(scan, byte)
-}
-
-fn refuse(refusal: Refusal) -> Value
-    ensures { result ≡ refused_value refusal }
-{
-    Value {
-        verdict: Verdict::Refused(refusal),
-        content: 0,
-    }
-}
-
-fn take(content: u64) -> Value
-    ensures { result ≡ taken_value content }
-{
-    Value {
-        verdict: Verdict::Accepted,
-        content,
-    }
-}
-
-fn finish_number(scan: Scan, low: u32, high: u32, line: usize) -> Value
-    requires { Good scan }
-    ensures { Finished (Kind.Number low high) scan line result }
-{
-    if scan.digits == 0 {
-        return refuse(Refusal::Malformed(line));
-    }
-    if scan.number < low {
-        return refuse(Refusal::OutOfRange(line));
-    }
-    if high < scan.number {
-        return refuse(Refusal::OutOfRange(line));
-    }
-    take(scan.number as u64)
-}
-
-fn finish_list(scan: Scan, most: u32, line: usize) -> Value
-    requires { (most ≤ max_facts) × Good scan }
-    ensures { Finished (Kind.FactList most) scan line result }
-{
-    if scan.digits == 0 {
-        if scan.first {
-            return take(0);
-        }
-        return refuse(Refusal::Malformed(line));
-    }
-    let closed = close(scan, most);
-    if !closed.in_range {
-        return refuse(Refusal::OutOfRange(line));
-    }
-    if !closed.rising {
-        return refuse(Refusal::NotRising(line));
-    }
-    take(closed.set)
-}
-
-// The value ends: which question it fails, or what the record is to hold.
-pub fn finish(scan: Scan, kind: Kind, line: usize) -> Value
-    requires { Modest kind × Good scan }
-    ensures { Finished kind scan line result }
+// What the record is to hold of a line's value, or the first of questions 4, 5 and 6 that gets no.
+pub fn read_value(value: &[u8], kind: Kind, line: usize) -> Result<u64, Refusal>
+    requires { Modest kind }
+    ensures { Answered kind value.now line result }
 {
     match kind {
-        Kind::Number(low, high) => finish_number(scan, low, high, line),
-        Kind::FactList(most) => finish_list(scan, most, line),
+        Kind::Number(low, high) => read_number(value, low, high, line),
+        Kind::FactList(most) => read_list(value, most, line),
     }
 }

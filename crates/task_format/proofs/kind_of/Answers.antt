@@ -1,35 +1,37 @@
--- `task_format::kind_of` meets its contract: a case for each line.
-use mathlib.Core.Path.{refl}
-use borrow.Author.Rules.{rules}
-use borrow.Author.Tests.{eq-eqb, ne_eqb}
+-- `task_format::kind_of` meets its contract: a case for each field.
+use Rattle.std.proofs.Common.{◌≡◌, refl, subst, ⊎_elim}
 use Rattle.task_format.specs.Lines.{kind_of}
-use Rattle.strips.specs.Laws.Choice.{at}
+use Rattle.task_format.specs.Fields.{IsAt}
+use Rattle.task_format.specs.declared.Field.{Field}
+use Rattle.task_format.specs.declared.Field.TheVariants.{Initial, Goal}
+use Rattle.task_format.specs.Laws.Lines.{kind_at}
 use Rattle.task_format.proofs.kind_of.Goals as goal
 
-pub returns-in-1 : goal.returns-in-1
+pub returns-in-Facts : goal.returns-in-Facts
 unfolding kind_of
-returns-in-1 c = at (kind_of c.args.facts) 1 c.args.line (search rules) refl
+returns-in-Facts c = rw c.in-Facts.ensures refl
 
-pub returns-in-2 : goal.returns-in-2
+pub returns-in-LeaderCount : goal.returns-in-LeaderCount
 unfolding kind_of
-returns-in-2 c = at (kind_of c.args.facts) 2 c.args.line (search rules) refl
+returns-in-LeaderCount c = rw c.in-LeaderCount.ensures refl
 
-pub returns-in-3 : goal.returns-in-3
+pub returns-in-FollowerCount : goal.returns-in-FollowerCount
 unfolding kind_of
-returns-in-3 c = at (kind_of c.args.facts) 3 c.args.line (search rules) refl
+returns-in-FollowerCount c = rw c.in-FollowerCount.ensures refl
 
-pub returns-in-4 : goal.returns-in-4
+pub returns-in-Initial : goal.returns-in-Initial
 unfolding kind_of
-returns-in-4 c = at (kind_of c.args.facts) 4 c.args.line (search rules) refl
+returns-in-Initial c =
+    let at = λ (f : Field) (e : c.field_at.result ≡ f). subst (λ (g : Field). IsAt g c.args.line) e c.field_at.ensures in
+    ⊎_elim (λ e. rw (at Initial e) refl) (λ e. rw (at Goal e) refl) c.in-Initial.is
 
-pub returns-in-5 : goal.returns-in-5
-unfolding kind_of
-returns-in-5 c = at (kind_of c.args.facts) 5 c.args.line (search rules) refl
+pub returns-in-Cost : goal.returns-in-Cost
+returns-in-Cost c =
+    let h = c.in-Action.ensures in
+    rw c.in-Cost.is at (kind_at c.args.line h.0 c.args.facts c.in-Action.part h.2)
 
-pub returns-in-2-2 : goal.returns-in-2-2
-unfolding kind_of
-returns-in-2-2 c = search (rules, eq-eqb, ne_eqb)
-
-pub returns-in_default-2 : goal.returns-in_default-2
-unfolding kind_of
-returns-in_default-2 c = search (rules, ne_eqb)
+pub returns-in-Precondition : goal.returns-in-Precondition
+returns-in-Precondition c =
+    let h = c.in-Action.ensures in
+    let k = kind_at c.args.line h.0 c.args.facts c.in-Action.part h.2 in
+    ⊎_elim (λ e. rw e at k) (λ e. ⊎_elim (λ d. rw d at k) (λ d. rw d at k) e) c.in-Precondition.is

@@ -1,11 +1,10 @@
--- Texts taken apart: the first line and the others, the first part of a list and the others.
-use Rattle.std.specs.Prelude.{◌≡◌, refl, true, List, [], ◌∷◌, ℕ, ◌%◌, ◌≤◌, ◌<◌, eqb, length, drop}
-use Rattle.std.proofs.Common.{sym, ap, ◌∙◌, arith, eq-eqb, ne_eqb, eqb-true, rules}
-use Rattle.strips.specs.Choice.{pick}
-use Rattle.task_format.specs.Text.{newline, comma, push, split, lines, parts, begins}
+-- Texts taken apart: the first line and the others, the first part of a list and the others; and what is known of each key.
+use Rattle.std.specs.Prelude.{◌≡◌, refl, List, [], ◌∷◌, ℕ, suc, ◌+◌, ◌%◌, ◌<◌, eqb, length}
+use Rattle.std.proofs.Common.{ap, arith, eq-eqb, ne_eqb, rules}
+use Rattle.task_format.specs.Text.{newline, comma, push, split, lines, parts, line_end, first_line, behind_line}
 use Rattle.task_format.specs.Value.{All}
 use Rattle.task_format.specs.Lines.{key_of, action_key}
-use Rattle.strips.specs.Laws.Choice.{by_test, either, never}
+use Rattle.strips.specs.Laws.Choice.{by_test, either}
 
 module _ (c : ℕ) (end : List (List ℕ)) where
   pub split_at : (b : ℕ) (t : List ℕ) → b ≡ c → split c end (b ∷ t) ≡ [] ∷ split c end t
@@ -32,62 +31,21 @@ parts_some (b ∷ v) =
 
 -- ---- the lines of a text
 
--- the bytes before the first newline, and those behind it
-unfoldable pub up_to : List ℕ → List ℕ
-up_to [] = []
-up_to (b ∷ t) = pick (eqb b newline) [] (b ∷ up_to t)
-
-unfoldable pub behind : List ℕ → List ℕ
-behind [] = []
-behind (b ∷ t) = pick (eqb b newline) t (behind t)
-
-pub lines_some : (b : ℕ) (t : List ℕ) → lines (b ∷ t) ≡ up_to (b ∷ t) ∷ lines (behind (b ∷ t))
-unfolding split up_to behind
-lines_some b [] = either (eqb b newline) (λ e. rw e) (λ e. rw e)
-lines_some b (a ∷ t) = let r = lines_some a t in either (eqb b newline) (λ e. rw e) (λ e. rw e (ap (push b) r))
-
--- a line begins with a key where the text does
-abbrev pub Plain : List ℕ → Type 0
-Plain key = All (λ b. b ≡ newline → ⊥) key
-
-pub begins_line : (key t : List ℕ) → Plain key → begins key (up_to t) ≡ begins key t
-unfolding begins up_to
-begins_line [] t p = refl
-begins_line (k ∷ key) [] p = refl
-begins_line (k ∷ key) (b ∷ t) p =
-    let r = begins_line key t p.1 in
-    either (eqb b newline)
-    (λ e. rw (e, ne_eqb b k (λ q. p.0 (sym q ∙ eqb-true b newline e))))
-    (λ e. rw (e, r))
-
-pub up_to_drop : (key t : List ℕ) → Plain key → begins key t ≡ true → drop (length key) (up_to t) ≡ up_to (drop (length key) t)
-unfolding begins up_to
-up_to_drop [] t p e = refl
-up_to_drop (k ∷ key) [] p e = absurd (never e)
-up_to_drop (k ∷ key) (b ∷ t) p e =
-    either (eqb b k)
-    (λ q. let n : b ≡ newline → ⊥ = λ z. p.0 (sym (eqb-true b k q) ∙ z) in rw (ne_eqb b newline n) (up_to_drop key t p.1 (rw q at e)))
-    (λ q. absurd (never (rw q at e)))
-
-pub behind_drop : (key t : List ℕ) → Plain key → begins key t ≡ true → behind t ≡ behind (drop (length key) t)
-unfolding begins behind
-behind_drop [] t p e = refl
-behind_drop (k ∷ key) [] p e = absurd (never e)
-behind_drop (k ∷ key) (b ∷ t) p e =
-    either (eqb b k)
-    (λ q. let n : b ≡ newline → ⊥ = λ z. p.0 (sym (eqb-true b k q) ∙ z) in rw (ne_eqb b newline n) (behind_drop key t p.1 (rw q at e)))
-    (λ q. absurd (never (rw q at e)))
-
-pub begins_length : (key t : List ℕ) → begins key t ≡ true → length key ≤ length t
-unfolding begins
-begins_length [] t e = omega arith
-begins_length (k ∷ key) [] e = absurd (never e)
-begins_length (k ∷ key) (b ∷ t) e =
-    either (eqb b k)
-    (λ q. let i = begins_length key t (rw q at e) in omega arith)
-    (λ q. absurd (never (rw q at e)))
+pub lines_first : (t : List ℕ) → (t ≡ [] → ⊥) → lines t ≡ first_line t ∷ lines (behind_line t)
+unfolding split
+lines_first [] f = absurd (f refl)
+lines_first (b ∷ []) f = either (eqb b newline) (λ e. rw e) (λ e. rw e)
+lines_first (b ∷ (a ∷ t)) f =
+    let r = lines_first (a ∷ t) (λ e. let z = ap length e in omega (arith, z)) in
+    let p : 1 + line_end (a ∷ t) ≡ suc (line_end (a ∷ t)) = omega arith in
+    let q : suc (line_end (a ∷ t)) + 1 ≡ suc (line_end (a ∷ t) + 1) = omega arith in
+    either (eqb b newline) (λ e. rw e) (λ e. rw (e, p, q) (ap (push b) r))
 
 -- ---- keys
+
+-- without a newline
+abbrev pub Plain : List ℕ → Type 0
+Plain key = All (λ b. b ≡ newline → ⊥) key
 
 pub record IsKey (key : List ℕ) : Type 0 where
   pub some : 0 < length key

@@ -1,19 +1,15 @@
 -- What is stored at each line.
 use Rattle.std.specs.Prelude.{◌≡◌, ℕ, ◌-◌, ◌%◌, ◌≤◌, ◌<◌, get_or, set}
-use Rattle.std.proofs.Common.{subst, ◌∙◌, lt-ltb, le-ltb, eq-eqb, ne_eqb}
+use Rattle.std.proofs.Common.{subst, ◌∙◌, lt-ltb, le-ltb, eq-eqb}
 use Rattle.strips.specs.Limits.{max_cost}
 use Rattle.strips.specs.Task.{idle}
-use Rattle.strips.specs.declared.Action.{Action}
 use Rattle.strips.specs.declared.Task.{Task}
+use Rattle.task_format.specs.Fields.{Other}
 use Rattle.task_format.specs.Lines.{with_part, with_action, kind_of}
-use Rattle.task_format.specs.Laws.Lines.{Other, kind_rest}
+use Rattle.task_format.specs.Laws.Lines.{kind_rest}
 use Rattle.task_format.specs.declared.Kind.{Kind}
 use Rattle.task_format.specs.declared.Kind.TheVariants.{Number}
-use Rattle.value_reader.specs.Scan.{AtMost}
-
-pub part_add : (a : Action) (r x : ℕ) → (r ≡ 2 → ⊥) → (r ≡ 3 → ⊥) → (r ≡ 0 → ⊥) → record { cost = a.cost; precondition = a.precondition; delete = a.delete; add = x } ≡ with_part a r x
-unfolding with_part
-part_add a r x p q s = simp (ne_eqb r 2 p, ne_eqb r 3 q, ne_eqb r 0 s)
+use Rattle.task_reader.specs.Line.{AtMost}
 
 module _ (t : Task) (i r x : ℕ) where
   pub leader_part : i < t.leader_count

@@ -1,47 +1,18 @@
 -- `task_writer::write_valid` meets its contract.
-use mathlib.Core.Path.{ap}
-use native.Mathlib.Omega.{arith}
-use lib.ListN.{length}
+use Rattle.std.proofs.Common.{arith}
+use Rattle.std.proofs.Math.Seq.{take-append_seam}
 use Rattle.task_format.specs.Render.{render}
-use Rattle.task_writer.specs.Laws.Written.{wrote_no, wrote_yes, roomy, front_long, front_is}
+use Rattle.task_writer.specs.Laws.Written.{wrote_no, wrote_yes, roomy}
 use Rattle.task_writer.proofs.write_valid.Goals as goal
 
-pub put_lines-n-requires : goal.put_lines-n-requires
-put_lines-n-requires c =
-    let a = c.args in
-    let v = c.requires in
-    (v, roomy a.task v)
+pub write_text-n-requires : goal.write_text-n-requires
+write_text-n-requires c = (c.requires, roomy c.args.task c.requires)
 
 pub returns-then-out-n : goal.returns-then-out-n
-returns-then-out-n c =
-    let a = c.args in
-    let v = c.requires in
-    wrote_no a.task a.out.now (let e = c.put_lines-n.ensures.end in omega (arith, e))
-
-pub slice_bounds-text-end : goal.slice_bounds-text-end
-slice_bounds-text-end c =
-    let a = c.args in
-    let v = c.requires in
-    front_long (render a.task) (roomy a.task v) _ _ c.put_lines-n.ensures
-
-pub slice_bounds-put_bytes-end : goal.slice_bounds-put_bytes-end
-slice_bounds-put_bytes-end c =
-    let a = c.args in
-    let v = c.requires in
-    let e = c.put_lines-n.ensures.end in
-    let f = ap length (front_is (render a.task) (roomy a.task v) _ _ c.put_lines-n.ensures) in
-    omega (arith, e, f)
-
-pub put_bytes-requires : goal.put_bytes-requires
-put_bytes-requires c =
-    let a = c.args in
-    let v = c.requires in
-    let e = c.put_lines-n.ensures.end in
-    let f = ap length (front_is (render a.task) (roomy a.task v) _ _ c.put_lines-n.ensures) in
-    omega (arith, e, f, c.if-out-n.false)
+returns-then-out-n c = wrote_no c.args.task c.args.out.now (omega (arith, c.write_text-n.ensures.bytes))
 
 pub returns : goal.returns
 returns c =
-    let a = c.args in
-    let v = c.requires in
-    wrote_yes a.task a.out.now _ _ c.put_lines-n.result _ (front_is (render a.task) (roomy a.task v) _ _ c.put_lines-n.ensures) (let e = c.put_lines-n.ensures.end in omega (arith, e)) c.if-out-n.false c.put_bytes.ensures
+    let t = c.args.task in
+    let made = c.write_text-n.ensures in
+    rw (c.copy_from_slice.ensures.after, made.text, made.bytes, take-append_seam (render t)) (wrote_yes t c.args.out.now (omega (arith, made.bytes)))

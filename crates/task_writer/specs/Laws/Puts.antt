@@ -1,63 +1,41 @@
 -- Members of a list, and lines.
-use Rattle.std.specs.Prelude.{◌≡◌, refl, Bool, List, [], ◌∷◌, ◌++◌, ℕ, suc, ◌+◌, ◌-◌, ◌/◌, ◌%◌, ◌≤◌, ◌<◌, eqb, length, get_or, set}
-use Rattle.std.proofs.Common.{sym, ap, ◌∙◌, subst, append_assoc, arith, add-zero, length-append}
-use Rattle.std.proofs.lemmas.List.Edits.{sets}
-use borrow.Author.Tests.{lt-ltb, le-ltb, eq-eqb, ne_eqb}
-use Rattle.strips.specs.Task.{idle, Valid}
+use Rattle.std.specs.Prelude.{◌≡◌, refl, Bool, false, [], ◌∷◌, ◌++◌, ℕ, suc, ◌+◌, ◌-◌, ◌/◌, ◌%◌, ◌^◌, ◌≤◌, ◌<◌, length}
+use Rattle.std.proofs.Common.{sym, ap, ◌∙◌, subst, append_assoc, arith, length-append}
+use borrow.Author.Tests.{eq-eqb, ne_eqb}
+use Rattle.strips.specs.Task.{Valid}
 use Rattle.strips.specs.declared.Task.{Task}
-use Rattle.task_format.specs.Text.{newline, comma}
-use Rattle.task_format.specs.Lines.{key_of, kind_of, part_of, action_of, action_field, field, last_line}
-use Rattle.task_format.specs.Render.{digits, facts_of, listed, value_text, line_text, lines_text, render}
-use Rattle.strips.specs.Laws.Choice.{either}
-use Rattle.task_format.specs.Laws.Digits.{digits_some}
+use Rattle.task_format.specs.Text.{newline}
+use Rattle.task_format.specs.Lines.{key_of, kind_of, field, last_line}
+use Rattle.task_format.specs.Limits.{max_digits}
+use Rattle.task_format.specs.Render.{digits_of, digits, facts_of, listed, value_text, line_text, lines_text, render}
 use Rattle.task_format.specs.Value.{OfKind, Modest}
 use Rattle.task_format.specs.Laws.Fields.{field_holds, modest}
-use Rattle.task_format.specs.Laws.Lines.{other, field_rest}
 use Rattle.task_format.specs.declared.Kind.{Kind}
-use Rattle.text_output.specs.Laws.Puts.{sets_append}
+use Rattle.text_output.specs.Puts.{number_digits}
+use Rattle.text_output.specs.Laws.Digits.{digits_same}
 use Rattle.task_writer.specs.Puts.{member_text, ended_line}
+
+-- ---- numbers
+
+-- a number of the file has no more digits where more are allowed
+pub five_digits : (n : ℕ) → n < 10 ^ max_digits → digits_of number_digits n ≡ digits n
+five_digits n h = digits_same max_digits n (omega arith) h (omega arith)
 
 -- ---- members of a list
 
-module _ (at start i s : ℕ) where
-  pub member_none : (s % 2 ≡ 1 → ⊥) → member_text (eqb at start) i s ≡ []
-  unfolding member_text
-  member_none n = rw (ne_eqb (s % 2) 1 n)
+-- the facts from i on, among the first `most`, of a set of which fact i is the lowest bit
+module _ (first : Bool) (most i s : ℕ) where
+  pub list_turn : i ≤ most → s % 2 ≡ 1 → listed first (facts_of (most + 1 - i) i s) ≡ member_text first i ++ listed false (facts_of (most + 1 - (i + 1)) (i + 1) (s / 2))
+  unfolding listed facts_of
+  list_turn h e = let k : most + 1 - i ≡ suc (most + 1 - (i + 1)) = omega arith in rw (k, eq-eqb (s % 2) 1 e) refl
 
-  pub member_first : s % 2 ≡ 1 → at ≡ start → member_text (eqb at start) i s ≡ digits i
-  unfolding member_text
-  member_first e q = rw (eq-eqb (s % 2) 1 e, eq-eqb at start q)
+  pub list_skip : i ≤ most → (s % 2 ≡ 1 → ⊥) → listed first (facts_of (most + 1 - i) i s) ≡ listed first (facts_of (most + 1 - (i + 1)) (i + 1) (s / 2))
+  unfolding facts_of
+  list_skip h n = let k : most + 1 - i ≡ suc (most + 1 - (i + 1)) = omega arith in rw (k, ne_eqb (s % 2) 1 n) refl
 
-  pub member_next : s % 2 ≡ 1 → (at ≡ start → ⊥) → member_text (eqb at start) i s ≡ comma ∷ digits i
-  unfolding member_text
-  member_next e q = rw (eq-eqb (s % 2) 1 e, ne_eqb at start q)
-
--- a turn of the loop over a set's bits: where something is written, what follows is no longer the first
-pub list_turn : (start at k i s : ℕ) → start ≤ at
-    → listed (eqb at start) (facts_of (suc k) i s)
-    ≡ member_text (eqb at start) i s ++ listed (eqb (at + length (member_text (eqb at start) i s)) start) (facts_of k (i + 1) (s / 2))
-unfolding listed facts_of member_text
-list_turn start at k i s h =
-    either (eqb (s % 2) 1)
-    (λ q. rw q (either (eqb at start)
-    (λ f. rw (f, ne_eqb (at + length (digits i)) start (λ e. absurd (omega (arith, digits_some 4 i)))))
-    (λ f. rw (f, ne_eqb (at + suc (length (digits i))) start (λ e. absurd (omega arith))))))
-    (λ q. rw (q, add-zero at))
-
-pub list_done : (first : Bool) (i s : ℕ) → listed first (facts_of 0 i s) ≡ []
-unfolding listed facts_of
-list_done first i s = refl
-
--- ---- fields
-
-module _ (t : Task) (n : ℕ) (h : 6 ≤ n) where
-  pub leader_field : action_of n < t.leader_count → part_of (get_or t.leader (action_of n) idle) (n % 4) ≡ field t n
-  unfolding action_field
-  leader_field l = rw (← field_rest n (other n h) t, lt-ltb (action_of n) t.leader_count l)
-
-  pub follower_field : t.leader_count ≤ action_of n → part_of (get_or t.follower (action_of n - t.leader_count) idle) (n % 4) ≡ field t n
-  unfolding action_field
-  follower_field l = rw (← field_rest n (other n h) t, le-ltb (action_of n) t.leader_count l)
+  pub list_done : most < i → listed first (facts_of (most + 1 - i) i s) ≡ []
+  unfolding listed facts_of
+  list_done h = let k : most + 1 - i ≡ 0 = omega arith in rw k refl
 
 -- ---- lines
 
@@ -70,20 +48,19 @@ line_length t n =
     ap length (line_is t n) ∙ length-append (key_of n) _
     ∙ omega (arith, length-append (value_text (kind_of t.facts n) (field t n)) (newline ∷ []))
 
-pub line_sets : (out k v : List ℕ) (at : ℕ) → set (sets (sets out at k) (at + length k) v) (at + length k + length v) newline ≡ sets out at (k ++ (v ++ (newline ∷ [])))
-line_sets out k v at = sets_append v (newline ∷ []) (sets out at k) (at + length k) ∙ sets_append k (v ++ (newline ∷ [])) out at
+-- the lines from n on, up to the last
+module _ (t : Task) (n last : ℕ) where
+  pub lines_turn : n ≤ last → lines_text (last + 1 - n) n t ≡ ended_line t n ++ lines_text (last + 1 - (n + 1)) (n + 1) t
+  unfolding lines_text
+  lines_turn h = let k : last + 1 - n ≡ suc (last + 1 - (n + 1)) = omega arith in rw k (sym (append_assoc (line_text t n) (newline ∷ []) _))
 
-pub lines_turn : (k n : ℕ) (t : Task) → lines_text (suc k) n t ≡ ended_line t n ++ lines_text k (n + 1) t
-unfolding lines_text
-lines_turn k n t = sym (append_assoc (line_text t n) (newline ∷ []) _)
+  pub lines_done : last < n → lines_text (last + 1 - n) n t ≡ []
+  unfolding lines_text
+  lines_done h = let k : last + 1 - n ≡ 0 = omega arith in rw k refl
 
-pub lines_done : (n : ℕ) (t : Task) → lines_text 0 n t ≡ []
-unfolding lines_text
-lines_done n t = refl
-
-pub render_is : (t : Task) → render t ≡ lines_text (last_line t) 1 t
+pub render_is : (t : Task) → render t ≡ lines_text (last_line t + 1 - 1) 1 t
 unfolding render
-render_is t = refl
+render_is t = let k : last_line t + 1 - 1 ≡ last_line t = omega arith in rw k refl
 
 -- the value of a line, as the code has its kind and its field
 pub value_same : (t : Task) (n : ℕ) (kind : Kind) (x : ℕ) → kind ≡ kind_of t.facts n → x ≡ field t n → value_text kind x ≡ value_text (kind_of t.facts n) (field t n)

@@ -1,46 +1,53 @@
 -- Runs of bytes joined, what is left of a run, and a run at the front of a slice.
-use Rattle.std.specs.Prelude.{◌≡◌, refl, List, [], ◌∷◌, ◌++◌, ℕ, suc, ◌+◌, ◌≤◌, length, set, drop}
-use Rattle.std.proofs.Common.{sym, ap, ◌∙◌, arith, add-zero, zero-add, length-append}
+use Rattle.std.specs.Prelude.{◌≡◌, refl, List, [], ◌∷◌, ◌++◌, ℕ, suc, ◌+◌, ◌≤◌, length, set, take, drop}
+use Rattle.std.proofs.Common.{sym, ap, ◌∙◌, arith, add-zero, zero-add, length-append, append_assoc, drop-drop}
 use Rattle.std.proofs.lemmas.List.Edits.{sets, sets-eq}
-use Rattle.std.proofs.Math.Seq.{length-sets}
-use Rattle.text_output.specs.Puts.{Puts}
+use Rattle.text_output.specs.Puts.{HasRoom, Puts}
+use Rattle.text_output.specs.declared.Output.{Output}
 
 pub sets_append : (a b l : List ℕ) (i : ℕ) → sets (sets l i a) (i + length a) b ≡ sets l i (a ++ b)
 sets_append [] b l i = rw (add-zero i) refl
 sets_append (x ∷ a) b l i = let e : i + suc (length a) ≡ suc i + length a = omega arith in rw e (sets_append a b (set l i x) (suc i))
 
-pub puts_append : {a b o p q : List ℕ} {at e r : ℕ} → Puts a at o p e → Puts b e p q r → Puts (a ++ b) at o q r
-puts_append {a} {b} {o} {at = at} x y =
-    record { text = y.text ∙ rw (x.text, x.end) (sets_append a b o at); end = omega (arith, x.end, y.end, length-append a b) }
+pub puts_append : {a b : List ℕ} {o p q : Output} → Puts a o p → Puts b p q → Puts (a ++ b) o q
+puts_append {a} {b} {o} x y = record {
+  same = y.same ∙ x.same;
+  text = y.text ∙ rw (x.text, x.end) (sets_append a b o.bytes.now o.end);
+  end = omega (arith, x.end, y.end, length-append a b);
+  size = y.size ∙ x.size;
+}
 
-pub puts_length : {a o p : List ℕ} {at r : ℕ} → Puts a at o p r → length p ≡ length o
-puts_length {a} {o} {at = at} x = ap length x.text ∙ length-sets o at a
+pub puts_length : {a : List ℕ} {o p : Output} → Puts a o p → length p.bytes.now ≡ length o.bytes.now
+puts_length x = x.size
 
-pub one_put : (b at : ℕ) (o : List ℕ) → Puts (b ∷ []) at o (set o at b) (at + 1)
-one_put b at o = record { text = refl; end = refl }
+-- to put `all` into o, what is left is to put `rest` into p
+pub record Left (all : List ℕ) (o : Output) (rest : List ℕ) (p : Output) : Type 0 where
+  pub same : p.bytes.ghost_name ≡ o.bytes.ghost_name
+  pub text : sets o.bytes.now o.end all ≡ sets p.bytes.now p.end rest
+  pub end : o.end + length all ≡ p.end + length rest
+  pub size : length p.bytes.now ≡ length o.bytes.now
 
--- to put `all` at `start` into o, what is left is to put `rest` at `at` into p
-pub record Left (all o : List ℕ) (start : ℕ) (rest p : List ℕ) (at : ℕ) : Type 0 where
-  pub text : sets o start all ≡ sets p at rest
-  pub end : start + length all ≡ at + length rest
-  pub size : length p ≡ length o
+pub left_start : (all : List ℕ) (o : Output) → Left all o all o
+left_start all o = record { same = refl; text = refl; end = refl; size = refl }
 
-pub left_start : (all o : List ℕ) (start : ℕ) → Left all o start all o start
-left_start all o start = record { text = refl; end = refl; size = refl }
-
-module _ {all o rest p : List ℕ} {start at : ℕ} (l : Left all o start rest p at) where
-  pub left_room : (b more : List ℕ) → rest ≡ b ++ more → start + length all ≤ length o → at + length b ≤ length p
+module _ {all rest : List ℕ} {o p : Output} (l : Left all o rest p) where
+  pub left_room : (b more : List ℕ) → rest ≡ b ++ more → HasRoom all o → HasRoom b p
   left_room b more e h = omega (arith, l.end, l.size, ap length e, length-append b more)
 
-  pub left_more : (b more : List ℕ) {q : List ℕ} {r : ℕ} → rest ≡ b ++ more → Puts b at p q r → Left all o start more q r
+  pub left_more : (b more : List ℕ) {q : Output} → rest ≡ b ++ more → Puts b p q → Left all o more q
   left_more b more e x = record {
-    text = l.text ∙ ap (sets p at) e ∙ sym (rw (x.text, x.end) (sets_append b more p at));
+    same = x.same ∙ l.same;
+    text = l.text ∙ ap (sets p.bytes.now p.end) e ∙ sym (rw (x.text, x.end) (sets_append b more p.bytes.now p.end));
     end = omega (arith, l.end, x.end, ap length e, length-append b more);
     size = puts_length x ∙ l.size;
   }
 
-  pub left_none : rest ≡ [] → Puts all start o p at
-  left_none e = record { text = sym (l.text ∙ ap (sets p at) e); end = omega (arith, l.end, ap length e) }
+  pub left_none : rest ≡ [] → Puts all o p
+  left_none e = record { same = l.same; text = sym (l.text ∙ ap (sets p.bytes.now p.end) e); end = omega (arith, l.end, ap length e); size = l.size }
 
 pub put_over : (text out : List ℕ) → length text ≤ length out → sets out 0 text ≡ text ++ drop (length text) out
 put_over text out h = let d : 0 + length text ≤ length out = omega arith in sets-eq text out 0 d ∙ rw (zero-add (length text))
+
+-- a run in the middle of a slice
+pub put_middle : (b l : List ℕ) (i : ℕ) → i + length b ≤ length l → take i l ++ (b ++ drop (length b) (drop i l)) ≡ sets l i b
+put_middle b l i h = sym (sets-eq b l i h ∙ append_assoc (take i l) b _ ∙ ap (λ (rest : List ℕ). take i l ++ (b ++ rest)) (sym (drop-drop (length b) i l)))

@@ -1,17 +1,10 @@
--- `task_reader::line::read_lines` meets its contract. The loops' invariants are `OnLine` and `OnValue`, the measure of each is what is left of the text.
-use Prim.Native.Nat.{◌-◌}
-use lib.ListN.{length}
-use Rattle.task_reader.specs.Line.{OnLine, OnValue}
+-- `task_reader::line::read_lines` meets its contract. The loop's invariant is `OnLine`, its measure what is left of the text.
+use Rattle.std.specs.Prelude.{length}
+use Rattle.task_reader.specs.Line.{OnLine}
 use Rattle.task_reader.proofs.line.read_lines.Given as goal
 
-abbrev pub invariant-loop-scan : goal.invariant-loop-scan
-invariant-loop-scan l = OnValue l.text l.initial.at l.kind l.at l.scan
+abbrev pub invariant-loop-line : goal.invariant-loop-line
+invariant-loop-line l = OnLine l.text l.task l.line l.rest
 
-abbrev pub decreases-loop-scan : goal.decreases-loop-scan
-decreases-loop-scan l = length l.text - l.at
-
-abbrev pub invariant-lines : goal.invariant-lines
-invariant-lines l = OnLine l.text l.task l.line l.at
-
-abbrev pub decreases-lines : goal.decreases-lines
-decreases-lines l = length l.text - l.at
+abbrev pub decreases-loop-line : goal.decreases-loop-line
+decreases-loop-line l = length l.rest

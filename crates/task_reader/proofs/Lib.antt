@@ -1,0 +1,2 @@
+-- What is proved about the record that reading begins with.
+pub mod Zeros
