@@ -9,6 +9,7 @@ ghost use Rattle.questions.specs.Lent.{lent};
 ghost use Rattle.c_interface.specs.Told.{told_in, read_numbers, ReportTold};
 
 use file_report::answer_in;
+use questions::Workspace;
 use rows::{BUCKET_WORDS, LINK_WORDS, WORDS};
 use task_reader::read;
 use telling::{tell_reading, tell_report};
@@ -29,7 +30,13 @@ pub extern "C" fn faldwern_report<'w, 'b>(
 )
     ensures { ReportTold (parse text.now) (lent states) (lent index) (lent links) (lent rows) room (lent plans) (lent output) (lent told) }
 {
-    let reported = answer_in(text, states, index, links, rows, room, plans, output);
+    let mut work = Workspace {
+        states,
+        index,
+        links,
+        rows,
+    };
+    let reported = answer_in(text, &mut work, room, plans, output);
     tell_report(reported, told);
 }
 

@@ -1,56 +1,37 @@
 // Numbers told in a lent slice, as far as it goes.
-ghost use Rattle.std.specs.Prelude.{◌≡◌, [], ◌∷◌, set};
+ghost use Rattle.std.specs.Prelude.{◌≡◌};
 ghost use Rattle.task_reader.specs.Reading as T;
 ghost use Rattle.report.specs.ReportCall.{returned};
 ghost use Rattle.c_interface.specs.Told.{told_in, read_numbers, report_numbers};
 
-use report::Reported;
-use task_reader::{Reading, Verdict};
+use outcome::Refusal;
+use report::Written;
+use strips::Task;
 
-fn tell(told: &mut [usize], i: usize, number: usize)
-    ensures { told.new ≡ set told.old i number }
+// The first places get the numbers, as many as there are places.
+fn tell(told: &mut [usize], numbers: &[usize])
+    ensures { told.new ≡ told_in numbers.now told.old }
 {
-    if i < told.len() {
-        told[i] = number;
-    }
+    let count = told.len().min(numbers.len());
+    told[..count].copy_from_slice(&numbers[..count]);
 }
 
-fn tell_two(told: &mut [usize], number: usize, place: usize)
-    ensures { told.new ≡ told_in (number ∷ place ∷ []) told.old }
-{
-    tell(told, 0, number);
-    tell(told, 1, place);
-}
-
-fn tell_four(told: &mut [usize], number: usize, place: usize, count: usize, bytes: usize)
-    ensures { told.new ≡ told_in (number ∷ place ∷ count ∷ bytes ∷ []) told.old }
-{
-    tell_two(told, number, place);
-    tell(told, 2, count);
-    tell(told, 3, bytes);
-}
-
-pub fn tell_report(reported: Reported, told: &mut [usize])
+// Of a report: number and place of the first question that gets no, 0 and 0 where none does; how many entries, and how many bytes.
+pub fn tell_report(reported: Result<Written, Refusal>, told: &mut [usize])
     ensures { told.new ≡ told_in (report_numbers (returned reported)) told.old }
 {
     match reported {
-        Reported::Written(count, bytes) => tell_four(told, 0, 0, count, bytes),
-        Reported::Refused(refusal) => tell_four(
-            told,
-            refusal.number() as usize,
-            refusal.place(),
-            0,
-            0,
-        ),
+        Ok(written) => tell(told, &[0, 0, written.entries, written.bytes]),
+        Err(refusal) => tell(told, &[refusal.number() as usize, refusal.place(), 0, 0]),
     }
 }
 
-pub fn tell_reading(reading: Reading, told: &mut [usize])
+// Of a text that is read: number and place.
+pub fn tell_reading(reading: Result<Task, Refusal>, told: &mut [usize])
     ensures { told.new ≡ told_in (read_numbers (T.returned reading)) told.old }
 {
-    let verdict = reading.verdict;
-    match verdict {
-        Verdict::Accepted => tell_two(told, 0, 0),
-        Verdict::Refused(refusal) => tell_two(told, refusal.number() as usize, refusal.place()),
+    match reading {
+        Ok(_) => tell(told, &[0, 0]),
+        Err(refusal) => tell(told, &[refusal.number() as usize, refusal.place()]),
     }
 }

@@ -1,16 +1,17 @@
 -- What the front call promises (document 01: the front).
-use Rattle.std.specs.Prelude.{List, [], ◌∷◌, ◌++◌, map, ℕ, length}
+use Rattle.std.specs.Prelude.{List, [], ◌∷◌, ◌++◌, map, ℕ, length, Result, Ok, Err}
 use Rattle.strips.specs.declared.Task.{Task}
 use Rattle.outcome.specs.Refusal.{number_of, place_of}
 use Rattle.outcome.specs.declared.Entry.{Entry}
+use Rattle.outcome.specs.declared.Refusal.{Refusal}
 use Rattle.questions.specs.Lent.{Lent}
-use Rattle.questions.specs.Memory.{memory, none, workspace}
+use Rattle.questions.specs.Memory.{memory, none}
 use Rattle.questions.specs.Record.{record_asks}
 use Rattle.questions.specs.Call.{Call, Returned, Promise}
+use Rattle.questions.specs.Workspace.{slices_in}
+use Rattle.questions.specs.declared.workspace.Workspace.{Workspace}
 use Rattle.pareto.specs.Front.{Line, Front}
 use Rattle.pareto.specs.Layout.{entry_for, plans_for}
-use Rattle.front.specs.declared.Fronted.{Fronted}
-use Rattle.front.specs.declared.Fronted.TheVariants.{Lines, Refused}
 
 abbrev pub front_asks : List ℕ
 front_asks = 8 ∷ record_asks ++ 13 ∷ 14 ∷ 15 ∷ []
@@ -28,10 +29,10 @@ front_call t = record {
   zero = 0;
 }
 
-abbrev pub FrontCall : Task → Lent (List ℕ) → (index links table : Lent (List (List ℕ))) → Lent (List Entry) → Lent (List ℕ) → Returned ℕ → Type 0
-FrontCall t states index links table entries plans = Promise (front_call t) (memory (workspace states index links table) entries plans none)
+abbrev pub FrontCall : Task → Lent Workspace → Lent (List Entry) → Lent (List ℕ) → Returned ℕ → Type 0
+FrontCall t work entries plans = Promise (front_call t) (memory (slices_in work) entries plans none)
 
 -- what is returned, as number, place and number of lines
-abbrev pub returned : Fronted → Returned ℕ
-returned (Lines k) = record { number = 0; place = 0; values = k }
-returned (Refused q) = record { number = number_of q; place = place_of q; values = 0 }
+abbrev pub returned : Result ℕ Refusal → Returned ℕ
+returned (Ok k) = record { number = 0; place = 0; values = k }
+returned (Err q) = record { number = number_of q; place = place_of q; values = 0 }

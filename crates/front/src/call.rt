@@ -1,49 +1,29 @@
 // The front call: the lines are found and their plans written, and their entries are stored from the rows.
 ghost use Rattle.questions.specs.Lent.{lent};
+ghost use Rattle.questions.specs.Workspace.{SameSlices};
 ghost use Rattle.front.specs.FrontCall.{returned, FrontCall};
-ghost use Rattle.front.specs.Asked.{FrontListed};
 
-use crate::Fronted;
-use crate::asked::{ask_front, line_count};
+use crate::asked::ask_front;
 use front_entries::take_entries;
 use front_lines::write_plans;
-use outcome::Entry;
-use rows::{BUCKET_WORDS, LINK_WORDS, WORDS};
+use outcome::{Entry, Refusal};
+use questions::Workspace;
 use strips::Task;
 
-// The lines are left in the rows, with room for so many entries.
-fn list_front<'w, 'b>(
+// The Pareto front of a task: the number of its lines, with their entries and plans, or the first question that gets no.
+pub fn front(
     task: Task,
-    states: &'w mut [u64],
-    index: &'w mut [[u16; BUCKET_WORDS]],
-    links: &'w mut [[u16; LINK_WORDS]],
-    rows: &'b mut [[u64; WORDS]],
-    room: usize,
-    plans: &'w mut [u8],
-) -> Fronted
-    ensures { FrontListed task (lent states) (lent index) (lent links) (lent rows) (lent plans) room (returned result) }
+    work: &mut Workspace<'_>,
+    entries: &mut [Entry],
+    plans: &mut [u8],
+) -> Result<usize, Refusal>
+    ensures same { SameSlices (lent work) }
+    ensures called { FrontCall task (lent work) (lent entries) (lent plans) (returned result) }
 {
-    let fronted = ask_front(task, states, index, links, rows, room, plans.len());
-    let count = line_count(fronted);
+    let count = ask_front(task, work, entries.len(), plans.len())?;
+    // Lent as `&` out of the workspace, the rows would be lost to the proof.
+    let rows = &mut *work.rows;
     write_plans(rows, count, plans);
-    fronted
-}
-
-// The Pareto front of a task: its entries and its plans, or the first question that gets no.
-pub fn front<'w, 'b, 'e>(
-    task: Task,
-    states: &'w mut [u64],
-    index: &'w mut [[u16; BUCKET_WORDS]],
-    links: &'w mut [[u16; LINK_WORDS]],
-    rows: &'b mut [[u64; WORDS]],
-    entries: &'e mut [Entry],
-    plans: &'w mut [u8],
-) -> Fronted
-    ensures { FrontCall task (lent states) (lent index) (lent links) (lent rows) (lent entries) (lent plans) (returned result) }
-{
-    let room = entries.len();
-    let fronted = list_front(task, states, index, links, rows, room, plans);
-    let count = line_count(fronted);
     take_entries(entries, rows, count);
-    fronted
+    Ok(count)
 }

@@ -1,87 +1,59 @@
 // The search for the front's lines, and questions 13 to 15 about them.
 ghost use Rattle.strips.specs.Task.{Valid};
 ghost use Rattle.questions.specs.Lent.{lent};
+ghost use Rattle.questions.specs.Workspace.{SameSlices};
 ghost use Rattle.planner.specs.Searches.{Spacious};
 ghost use Rattle.front.specs.FrontCall.{returned};
 ghost use Rattle.front.specs.Inner.Stages.{LinesFound, LinesAsked, UsedCleared, LinesListed};
 
-use crate::Fronted;
-use crate::asked::line_count;
 use front_lines::{choose, total_steps};
 use outcome::Refusal;
 use planner::solve;
-use rows::{
-    BUCKET_WORDS, LINK_WORDS, WORDS, clear_buckets, clear_links, clear_numbers, clear_words,
-};
+use questions::Workspace;
 use strips::Task;
 
-// How many lines the front has, whose rows are noted; one more than n where the states that can be reached do not fit n places.
-fn find_lines(
-    task: Task,
-    n: usize,
-    states: &mut [u64],
-    index: &mut [[u16; BUCKET_WORDS]],
-    links: &mut [[u16; LINK_WORDS]],
-    rows: &mut [[u64; WORDS]],
-) -> usize
-    requires { Valid task × Spacious n states.old index.old links.old rows.old }
-    ensures { LinesFound task n rows.new result }
+// How many lines the front has, whose rows are noted; question 13, whether the states that can be reached fit n places.
+fn find_lines(task: Task, n: usize, work: &mut Workspace<'_>) -> Result<usize, Refusal>
+    requires { Valid task × Spacious n work.old }
+    ensures same { SameSlices (lent work) }
+    ensures found { LinesFound task n work.new.rows.now result }
 {
-    let m = solve(
-        task,
-        &mut states[..n],
-        &mut index[..n],
-        &mut links[..n],
-        &mut rows[..n],
-    );
-    if n < m {
-        return m;
-    }
-    choose(rows, m)
+    let m = solve(task, n, work)?;
+    Ok(choose(work.rows, m))
 }
 
 // Questions 13 to 15, with room for so many entries and plan numbers. The lines are left in the rows.
 fn search_lines(
     task: Task,
     n: usize,
-    states: &mut [u64],
-    index: &mut [[u16; BUCKET_WORDS]],
-    links: &mut [[u16; LINK_WORDS]],
-    rows: &mut [[u64; WORDS]],
+    work: &mut Workspace<'_>,
     entries: usize,
     numbers: usize,
-) -> Fronted
-    requires { Valid task × Spacious n states.old index.old links.old rows.old }
-    ensures { LinesAsked task n entries numbers rows.new (returned result) }
+) -> Result<usize, Refusal>
+    requires { Valid task × Spacious n work.old }
+    ensures same { SameSlices (lent work) }
+    ensures asked { LinesAsked task n entries numbers work.new.rows.now (returned result) }
 {
-    let count = find_lines(task, n, states, index, links, rows);
-    if n < count {
-        return Fronted::Refused(Refusal::TooManyStates);
-    }
+    let count = find_lines(task, n, work)?;
     if entries < count {
-        return Fronted::Refused(Refusal::TooManyEntries);
+        return Err(Refusal::TooManyEntries);
     }
+    // Lent as `&` out of the workspace, the rows would be lost to the proof.
+    let rows = &mut *work.rows;
     if numbers < total_steps(rows, count) {
-        return Fronted::Refused(Refusal::PlansTooLong);
+        return Err(Refusal::PlansTooLong);
     }
-    Fronted::Lines(count)
+    Ok(count)
 }
 
 // Clears what the search has used, but for the rows of lines.
-fn clear_used(
-    fronted: Fronted,
-    states: &mut [u64],
-    index: &mut [[u16; BUCKET_WORDS]],
-    links: &mut [[u16; LINK_WORDS]],
-    rows: &mut [[u64; WORDS]],
-)
-    ensures { UsedCleared (returned fronted) (lent states) (lent index) (lent links) (lent rows) }
+fn clear_used(fronted: Result<usize, Refusal>, work: &mut Workspace<'_>)
+    ensures same { SameSlices (lent work) }
+    ensures cleared { UsedCleared fronted (lent work) }
 {
-    clear_numbers(states);
-    clear_buckets(index);
-    clear_links(links);
-    if line_count(fronted) == 0 {
-        clear_words(rows);
+    match fronted {
+        Ok(_) => work.clear_all_but_rows(),
+        Err(_) => work.clear(),
     }
 }
 
@@ -89,17 +61,15 @@ fn clear_used(
 pub fn list_lines(
     task: Task,
     n: usize,
-    states: &mut [u64],
-    index: &mut [[u16; BUCKET_WORDS]],
-    links: &mut [[u16; LINK_WORDS]],
-    rows: &mut [[u64; WORDS]],
+    work: &mut Workspace<'_>,
     entries: usize,
     numbers: usize,
-) -> Fronted
-    requires { Valid task × Spacious n states.old index.old links.old rows.old }
-    ensures { LinesListed task n entries numbers (lent states) (lent index) (lent links) (lent rows) (returned result) }
+) -> Result<usize, Refusal>
+    requires { Valid task × Spacious n work.old }
+    ensures same { SameSlices (lent work) }
+    ensures listed { LinesListed task n entries numbers (lent work) (returned result) }
 {
-    let fronted = search_lines(task, n, states, index, links, rows, entries, numbers);
-    clear_used(fronted, states, index, links, rows);
+    let fronted = search_lines(task, n, work, entries, numbers);
+    clear_used(fronted, work);
     fronted
 }

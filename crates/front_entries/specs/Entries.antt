@@ -1,6 +1,5 @@
 -- Entries stored one after another, and what is left of the rows.
-use Rattle.std.specs.Prelude.{List, ℕ, zero, suc, eqb, set, replicate}
-use Rattle.strips.specs.Choice.{pick}
+use Rattle.std.specs.Prelude.{List, ℕ, zero, suc, set, replicate}
 use Rattle.outcome.specs.declared.Entry.{Entry}
 use Rattle.rows.specs.Cleared.{everywhere}
 use Rattle.pareto.specs.Layout.{entry_for}
@@ -15,7 +14,7 @@ unfoldable pub stored : List Entry → List (List ℕ) → ℕ → List Entry
 stored es R zero = es
 stored es R (suc n) = set (stored es R n) n (entry_in R n)
 
--- the rows when k of n entries are stored: cleared with the last
-unfoldable pub rows_left : List (List ℕ) → (n k : ℕ) → List (List ℕ)
-rows_left R zero k = R
-rows_left R (suc n) k = pick (eqb k (suc n)) (everywhere (replicate 8 0) R) R
+-- the rows when the entries of n lines are stored: cleared, where there are lines
+unfoldable pub rows_left : List (List ℕ) → ℕ → List (List ℕ)
+rows_left R zero = R
+rows_left R (suc n) = everywhere (replicate 8 0) R

@@ -22,11 +22,9 @@ pub fn total_steps(rows: &[[u64; WORDS]], count: usize) -> usize
     ensures { result ≡ length (plans_for (lines_in rows.now count)) }
 {
     let mut total = 0;
-    let mut k = 0;
-    while k < count {
+    for k in 0..count {
         let i = note(rows, k);
         total += line_steps(rows, i);
-        k += 1;
     }
     total
 }
@@ -47,10 +45,8 @@ pub fn write_plans(rows: &[[u64; WORDS]], count: usize, plans: &mut [u8])
         ++ drop (length (plans_for (lines_in rows.now count))) plans.old }
 {
     let mut at = 0;
-    let mut k = 0;
-    while k < count {
+    for k in 0..count {
         let i = note(rows, k);
         at += write_line(rows, i, &mut plans[at..]);
-        k += 1;
     }
 }

@@ -7,6 +7,7 @@ ghost use Rattle.planner.specs.Inner.Columns.{Readable};
 ghost use Rattle.front_lines.specs.Lines.{note_at, Chosen};
 ghost use Rattle.front_lines.specs.Inner.Selection.{rating_of, Better, Placed, Visited};
 
+use outcome::is_at_most;
 use planner::{answer, note, price, put_note, rank, settled_row};
 use rows::WORDS;
 
@@ -19,16 +20,17 @@ enum Place {
 }
 
 // Whether row i is preferred to row j of the same price: by the higher answer, then by the lower rank.
+// No comparison of pairs: the one rises where the other falls, and none, which is the least of `Option`, is the highest answer.
 fn is_preferred(rows: &[[u64; WORDS]], i: usize, j: usize) -> bool
     requires { Readable rows.now i × Readable rows.now j }
     ensures { Better (rating_of rows.now) i j result }
 {
     let a = answer(rows, i);
     let b = answer(rows, j);
-    if !a.at_most(b) {
+    if !is_at_most(a, b) {
         return true;
     }
-    if !b.at_most(a) {
+    if !is_at_most(b, a) {
         return false;
     }
     rank(rows, i) < rank(rows, j)
@@ -39,9 +41,8 @@ fn place_of(rows: &[[u64; WORDS]], i: usize, last: usize) -> Place
     requires { Readable rows.now i × Readable rows.now last }
     ensures { Placed (rating_of rows.now) i last result }
 {
-    let dearer = !price(rows, i).at_most(price(rows, last));
-    if dearer {
-        if answer(rows, i).at_most(answer(rows, last)) {
+    if price(rows, last) < price(rows, i) {
+        if is_at_most(answer(rows, i), answer(rows, last)) {
             return Place::Nowhere;
         }
         return Place::Behind;
@@ -82,11 +83,9 @@ pub fn choose(rows: &mut [[u64; WORDS]], m: usize) -> usize
         × ((t : Task) → Solved t rows.old m → Chosen t rows.new result) }
 {
     let mut count = 0;
-    let mut p = 0;
-    while p < m {
+    for p in 0..m {
         let i = settled_row(rows, p);
         count = visit(rows, count, i);
-        p += 1;
     }
     count
 }

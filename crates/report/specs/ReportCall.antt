@@ -1,18 +1,19 @@
 -- What a call promises that writes the front as a text too (document 01: the report of a hall).
-use Rattle.std.specs.Prelude.{List, [], ◌∷◌, ◌++◌, map, ℕ, length, replicate}
+use Rattle.std.specs.Prelude.{List, [], ◌∷◌, ◌++◌, map, ℕ, length, replicate, None, Result, Ok, Err}
 use Rattle.strips.specs.declared.Task.{Task}
 use Rattle.outcome.specs.Refusal.{number_of, place_of}
-use Rattle.outcome.specs.declared.Answer.TheVariants.{None}
 use Rattle.outcome.specs.declared.Entry.{Entry}
+use Rattle.outcome.specs.declared.Refusal.{Refusal}
 use Rattle.questions.specs.Lent.{Lent}
-use Rattle.questions.specs.Memory.{memory, workspace}
+use Rattle.questions.specs.Memory.{memory}
 use Rattle.questions.specs.Record.{record_asks}
 use Rattle.questions.specs.Call.{Call, Returned, Promise}
+use Rattle.questions.specs.Workspace.{slices_in}
+use Rattle.questions.specs.declared.workspace.Workspace.{Workspace}
 use Rattle.pareto.specs.Front.{Line, Front}
 use Rattle.pareto.specs.Layout.{entry_for, plans_for}
 use Rattle.report_text.specs.Report.{report_text}
-use Rattle.report.specs.declared.Reported.{Reported}
-use Rattle.report.specs.declared.Reported.TheVariants.{Written, Refused}
+use Rattle.report.specs.declared.Written.{Written}
 
 abbrev pub report_asks : List ℕ
 report_asks = 8 ∷ record_asks ++ 13 ∷ 14 ∷ 15 ∷ 16 ∷ []
@@ -41,8 +42,8 @@ text_call text_of t = record {
 abbrev pub report_call : Task → Call (List Line) Counts
 report_call = text_call report_text
 
-abbrev pub ReportCall : Task → Lent (List ℕ) → (index links table : Lent (List (List ℕ))) → Lent (List Entry) → (plans text : Lent (List ℕ)) → Returned Counts → Type 0
-ReportCall t states index links table entries plans text = Promise (report_call t) (memory (workspace states index links table) entries plans text)
+abbrev pub ReportCall : Task → Lent Workspace → Lent (List Entry) → (plans text : Lent (List ℕ)) → Returned Counts → Type 0
+ReportCall t work entries plans text = Promise (report_call t) (memory (slices_in work) entries plans text)
 
 -- an entry before it is written
 abbrev pub blank : Entry
@@ -52,10 +53,10 @@ blank = record { price = record { 0 = 0 }; answer = None; leader_steps = 0; foll
 abbrev pub own_entries : ℕ → List Entry → Lent (List Entry)
 own_entries room left = record { before = replicate room blank; after = left }
 
-abbrev pub PrintCall : Task → Lent (List ℕ) → (index links table : Lent (List (List ℕ))) → (room : ℕ) → (plans text : Lent (List ℕ)) → Returned Counts → Type 0
-PrintCall t states index links table room plans text r = (left : List Entry) × ReportCall t states index links table (own_entries room left) plans text r
+abbrev pub PrintCall : Task → Lent Workspace → (room : ℕ) → (plans text : Lent (List ℕ)) → Returned Counts → Type 0
+PrintCall t work room plans text r = (left : List Entry) × ReportCall t work (own_entries room left) plans text r
 
 -- what is returned, as number, place and counts
-abbrev pub returned : Reported → Returned Counts
-returned (Written k b) = record { number = 0; place = 0; values = counts k b }
-returned (Refused q) = record { number = number_of q; place = place_of q; values = counts 0 0 }
+abbrev pub returned : Result Written Refusal → Returned Counts
+returned (Ok w) = record { number = 0; place = 0; values = counts w.entries w.bytes }
+returned (Err q) = record { number = number_of q; place = place_of q; values = counts 0 0 }

@@ -33,10 +33,8 @@ fn lines_bytes(rows: &[[u64; WORDS]], count: usize, plan: &mut [u8]) -> usize
     ensures { result ≡ length (report_text (lines_in rows.now count)) }
 {
     let mut total = head_bytes(count);
-    let mut k = 0;
-    while k < count {
+    for k in 0..count {
         total += line_bytes(rows, k, plan);
-        k += 1;
     }
     total
 }

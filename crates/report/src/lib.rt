@@ -7,11 +7,10 @@ mod call;
 mod text;
 
 pub use call::{print, report};
-use outcome::Refusal;
 
-// The number of entries and the number of bytes written, or the first question that gets no.
+// What a report has found and written: how many entries, and how many bytes of text.
 #[derive(Clone, Copy)]
-pub enum Reported {
-    Written(usize, usize),
-    Refused(Refusal),
+pub struct Written {
+    pub entries: usize,
+    pub bytes: usize,
 }

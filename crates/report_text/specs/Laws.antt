@@ -3,4 +3,3 @@ pub mod Numerals
 pub mod Injective
 pub mod Sizes
 pub mod Entries
-pub mod Putting

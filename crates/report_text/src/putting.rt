@@ -1,129 +1,118 @@
-// The text put into a lent slice, one part behind the other. Each function returns the place behind what it put.
-ghost use Rattle.std.specs.Prelude.{◌≡◌, ◌∷◌, ◌+◌, ◌≤◌, length, drop};
+// The text put into an output, one part behind the other.
+ghost use Rattle.std.specs.Prelude.{◌∷◌, ◌≤◌, length};
 ghost use Rattle.outcome.specs.Answer.{value_of};
+ghost use Rattle.outcome.specs.Limits.{max_number};
+ghost use Rattle.outcome.specs.Refusal.{number_of, place_of};
 ghost use Rattle.task_format.specs.Text.{comma};
-ghost use Rattle.text_output.specs.Puts.{Puts};
+ghost use Rattle.text_output.specs.Puts.{HasRoom, Puts};
 ghost use Rattle.search.specs.Limits.{max_places};
-ghost use Rattle.report_text.specs.Report.{answer_key, numeral, plan_text, answer_text, printed, line_text, head_text, refusal_text};
-ghost use Rattle.report_text.specs.Entries.{line_of, entry_steps, line_from};
+ghost use Rattle.report_text.specs.Report.{numeral, plan_text, answer_text, printed, line_text, head_text, refusal_text};
+ghost use Rattle.report_text.specs.Content.{content_text};
+ghost use Rattle.report_text.specs.Entries.{entry_steps, line_from};
 
-use outcome::{Answer, Entry};
-use text_output::{NUMBER_DIGITS, put_bytes, put_digits};
+use outcome::{Answer, Entry, Refusal};
+use text_output::Output;
 
-fn put_number(out: &mut [u8], at: usize, n: u32) -> usize
-    requires { at + length (numeral n) ≤ length out.old }
-    ensures { Puts (numeral n) at out.old out.new result }
+// What stands between a printed line's key and its newline.
+#[derive(Clone, Copy)]
+enum Content<'a> {
+    Number(u32),
+    Answer(Answer),
+    Plan(&'a [u8]),
+}
+
+#[tactic(auto, using(crate::specs::Laws::Numerals::number_is))]
+fn put_number(out: &mut Output<'_>, n: u32)
+    requires { HasRoom (numeral n) out.old }
+    ensures { Puts (numeral n) out.old out.new }
 {
-    put_digits(out, at, n, NUMBER_DIGITS)
+    out.put_digits(n);
 }
 
 // A plan's number behind its first.
-fn put_further(out: &mut [u8], at: usize, n: u8) -> usize
-    requires { at + length (comma ∷ numeral n) ≤ length out.old }
-    ensures { Puts (comma ∷ numeral n) at out.old out.new result }
+fn put_further(out: &mut Output<'_>, n: u8)
+    requires { HasRoom (comma ∷ numeral n) out.old }
+    ensures { Puts (comma ∷ numeral n) out.old out.new }
 {
-    out[at] = b',';
-    put_number(out, at + 1, n as u32)
+    out.put_byte(b',');
+    put_number(out, u32::from(n));
 }
 
-fn put_plan(out: &mut [u8], at: usize, plan: &[u8]) -> usize
-    requires { at + length (plan_text plan.now) ≤ length out.old }
-    ensures { Puts (plan_text plan.now) at out.old out.new result }
+#[tactic(auto, unfolding(crate::specs::Report::plan_text, crate::specs::Report::further_text))]
+fn put_plan(out: &mut Output<'_>, plan: &[u8])
+    requires { HasRoom (plan_text plan.now) out.old }
+    ensures { Puts (plan_text plan.now) out.old out.new }
 {
-    if plan.len() == 0 {
-        return at;
+    let Some((first, rest)) = plan.split_first() else {
+        return;
+    };
+    put_number(out, u32::from(*first));
+    for n in rest {
+        put_further(out, *n);
     }
-    let mut end = put_number(out, at, plan[0] as u32);
-    let mut i = 1;
-    while i < plan.len() {
-        end = put_further(out, end, plan[i]);
-        i += 1;
-    }
-    end
 }
 
-fn put_answer(out: &mut [u8], at: usize, answer: Answer) -> usize
-    requires { at + length (answer_text (value_of answer)) ≤ length out.old }
-    ensures { Puts (answer_text (value_of answer)) at out.old out.new result }
+#[tactic(auto, unfolding(crate::specs::Report::answer_text))]
+fn put_answer(out: &mut Output<'_>, answer: Answer)
+    requires { HasRoom (answer_text (value_of answer)) out.old }
+    ensures { Puts (answer_text (value_of answer)) out.old out.new }
 {
     match answer {
-        Answer::None => put_bytes(out, at, b"none"),
-        Answer::Cost(minutes) => put_number(out, at, minutes.0),
+        None => out.put_bytes(b"none"),
+        Some(minutes) => put_number(out, minutes.0),
     }
 }
 
-fn put_number_line(out: &mut [u8], at: usize, key: &[u8], n: u32) -> usize
-    requires { at + length (printed key.now (numeral n)) ≤ length out.old }
-    ensures { Puts (printed key.now (numeral n)) at out.old out.new result }
+fn put_content(out: &mut Output<'_>, content: Content<'_>)
+    requires { HasRoom (content_text content) out.old }
+    ensures { Puts (content_text content.entry) out.old out.new }
 {
-    let value = put_bytes(out, at, key);
-    let end = put_number(out, value, n);
-    out[end] = b'\n';
-    end + 1
+    match content {
+        Content::Number(n) => put_number(out, n),
+        Content::Answer(answer) => put_answer(out, answer),
+        Content::Plan(plan) => put_plan(out, plan),
+    }
 }
 
-fn put_plan_line(out: &mut [u8], at: usize, key: &[u8], plan: &[u8]) -> usize
-    requires { at + length (printed key.now (plan_text plan.now)) ≤ length out.old }
-    ensures { Puts (printed key.now (plan_text plan.now)) at out.old out.new result }
+#[tactic(auto, using(crate::specs::Laws::Sizes::printed_length, text_output::specs::Laws::Puts::puts_append), unfolding(crate::specs::Report::printed))]
+fn put_line(out: &mut Output<'_>, key: &[u8], content: Content<'_>)
+    requires { HasRoom (printed key.now (content_text content)) out.old }
+    ensures { Puts (printed key.now (content_text content.entry)) out.old out.new }
 {
-    let value = put_bytes(out, at, key);
-    let end = put_plan(out, value, plan);
-    out[end] = b'\n';
-    end + 1
+    out.put_bytes(key);
+    put_content(out, content);
+    out.put_byte(b'\n');
 }
 
-fn put_answer_line(out: &mut [u8], at: usize, answer: Answer) -> usize
-    requires { at + length (printed answer_key (answer_text (value_of answer))) ≤ length out.old }
-    ensures { Puts (printed answer_key (answer_text (value_of answer))) at out.old out.new result }
+// The lines of an entry whose plans are the first of these plan numbers.
+#[tactic(auto, using(crate::specs::Laws::Sizes::four_length), unfolding(crate::specs::Entries::line_from))]
+pub fn put_entry(out: &mut Output<'_>, entry: Entry, plans: &[u8])
+    requires { (entry_steps entry ≤ length plans.now) × HasRoom (line_text (line_from entry plans.now)) out.old }
+    ensures { Puts (line_text (line_from entry plans.now)) out.old out.new }
 {
-    let value = put_bytes(out, at, b"answer=");
-    let end = put_answer(out, value, answer);
-    out[end] = b'\n';
-    end + 1
+    let (outages, others) = plans.split_at(entry.leader_steps as usize);
+    let (moves, _) = others.split_at(entry.follower_steps as usize);
+    put_line(out, b"price=", Content::Number(entry.price.0));
+    put_line(out, b"answer=", Content::Answer(entry.answer));
+    put_line(out, b"outages=", Content::Plan(outages));
+    put_line(out, b"moves=", Content::Plan(moves));
 }
 
-// The line of an entry with these plans.
-fn put_line(out: &mut [u8], at: usize, entry: Entry, outages: &[u8], moves: &[u8]) -> usize
-    requires { at + length (line_text (line_of entry outages.now moves.now)) ≤ length out.old }
-    ensures { Puts (line_text (line_of entry outages.now moves.now)) at out.old out.new result }
+// The first printed line.
+#[tactic(auto, unfolding(crate::specs::Report::head_text))]
+pub fn put_head(out: &mut Output<'_>, count: usize)
+    requires { (count ≤ max_places) × HasRoom (head_text count) out.old }
+    ensures { Puts (head_text count) out.old out.new }
 {
-    let price = entry.price;
-    let answer = entry.answer;
-    let answer_at = put_number_line(out, at, b"price=", price.0);
-    let outages_at = put_answer_line(out, answer_at, answer);
-    let moves_at = put_plan_line(out, outages_at, b"outages=", outages);
-    put_plan_line(out, moves_at, b"moves=", moves)
+    put_line(out, b"entries=", Content::Number(count as u32));
 }
 
-// The line of an entry whose plans start at `from`.
-pub fn put_entry(out: &mut [u8], at: usize, entry: Entry, plans: &[u8], from: usize) -> usize
-    requires { (from + entry_steps entry ≤ length plans.now) × (at + length (line_text (line_from entry (drop from plans.now))) ≤ length out.old) }
-    ensures { Puts (line_text (line_from entry (drop from plans.now))) at out.old out.new result }
+// The two lines of a refusal.
+#[tactic(auto, using(crate::specs::Laws::Sizes::refusal_length, text_output::specs::Laws::Puts::puts_append), unfolding(crate::specs::Report::refusal_text))]
+pub fn put_refusal(out: &mut Output<'_>, refusal: Refusal)
+    requires { (place_of refusal ≤ max_number) × HasRoom (refusal_text (number_of refusal) (place_of refusal)) out.old }
+    ensures { Puts (refusal_text (number_of refusal) (place_of refusal)) out.old out.new }
 {
-    let moves_from = from + entry.leader_steps as usize;
-    let end = moves_from + entry.follower_steps as usize;
-    put_line(
-        out,
-        at,
-        entry,
-        &plans[from..moves_from],
-        &plans[moves_from..end],
-    )
-}
-
-// The first printed line, from the first place on.
-pub fn put_head(out: &mut [u8], count: usize) -> usize
-    requires { (count ≤ max_places) × (length (head_text count) ≤ length out.old) }
-    ensures { Puts (head_text count) 0 out.old out.new result }
-{
-    put_number_line(out, 0, b"entries=", count as u32)
-}
-
-// The two lines of a refusal, from the first place on.
-pub fn put_refusal(out: &mut [u8], number: u32, place: u32) -> usize
-    requires { length (refusal_text number place) ≤ length out.old }
-    ensures { Puts (refusal_text number place) 0 out.old out.new result }
-{
-    let line_at = put_number_line(out, 0, b"refused=", number);
-    put_number_line(out, line_at, b"line=", place)
+    put_line(out, b"refused=", Content::Number(refusal.number()));
+    put_line(out, b"line=", Content::Number(refusal.place() as u32));
 }

@@ -1,12 +1,11 @@
 -- What is printed is determined by the text, by no more of it than is read, and is the report where that fits.
-use Rattle.std.specs.Prelude.{◌≡◌, refl, ℕ, ◌≤◌, ◌<◌, length, take, drop, replicate}
-use Rattle.std.proofs.Common.{sym, ap, ◌∙◌, arith, zero-add, length-append}
+use Rattle.std.specs.Prelude.{◌≡◌, refl, ℕ, ◌≤◌, ◌<◌, length, take, drop, replicate, Ok, Err}
+use Rattle.std.proofs.Common.{sym, ap, ◌∙◌, arith, length-append}
 use mathlib.Core.List.Memᴰ
 use mathlib.Core.List.{List, [], ◌∷◌, ◌++◌, map, Memᴰ}
 use Rattle.std.proofs.lemmas.List.{length-replicate, length-map}
 use Rattle.strips.specs.Laws.Decision.{asked_yes, asked_no}
 use Rattle.strips.specs.declared.Task.{Task}
-use Rattle.outcome.specs.Limits.{max_number}
 use Rattle.outcome.specs.Refusal.{number_of, place_of}
 use Rattle.outcome.specs.Laws.Refusal.{number_some}
 use Rattle.outcome.specs.declared.Refusal.{Refusal}
@@ -15,25 +14,25 @@ use Rattle.task_format.specs.Parse.{Read, parse, accepted}
 use Rattle.task_format.specs.Laws.Parse.{parse_cut}
 use Rattle.task_format.proofs.Places.{parse_place, parse_accepted}
 use Rattle.round_trip.specs.Theorems.{read_valid}
-use Rattle.text_output.specs.Puts.{Puts}
-use Rattle.text_output.specs.Laws.Puts.{put_over}
 use Rattle.search.specs.Reachable.{Fits}
 use Rattle.search.specs.Limits.{max_places}
-use Rattle.questions.specs.Lent.{Lent}
+use Rattle.questions.specs.Lent.{Lent, over}
 use Rattle.questions.specs.Asked.{no_to, yes_to, answered}
 use Rattle.questions.specs.Size.{SizesAllowed, shortest}
-use Rattle.questions.specs.Memory.{Memory}
+use Rattle.questions.specs.Memory.{Memory, Slice}
+use Rattle.questions.specs.Memory as M
 use Rattle.questions.specs.Call.{Returned}
+use Rattle.questions.specs.Workspace.{slices_in, sizes_of}
+use Rattle.questions.specs.declared.workspace.Workspace.{Workspace}
 use Rattle.pareto.specs.Front.{Line, Front}
 use Rattle.pareto.specs.Layout.{entry_for, plans_for}
 use Rattle.pareto.specs.Laws.Unique.{front_unique}
 use Rattle.outcome.specs.declared.Entry.{Entry}
 use Rattle.report_text.specs.Report.{report_text, refusal_text}
-use Rattle.report_text.specs.Laws.Sizes.{refusal_few}
-use Rattle.report.specs.declared.Reported.{Reported}
-use Rattle.report.specs.declared.Reported.TheVariants.{Written, Refused}
+use Rattle.report_text.specs.Laws.Sizes.{number_few, refusal_few}
+use Rattle.report.specs.declared.Written.{Written}
 use Rattle.report.specs.ReportCall.{Counts, counts, blank, ReportCall, returned}
-use Rattle.file_report.specs.TextCall.{places, room, plan_numbers, unread, read_as, TextCall, Answered}
+use Rattle.file_report.specs.TextCall.{places, room, plan_numbers, program_slices, unread, read_as, TextCall, Answered}
 use Rattle.file_report.specs.Printed.{input_bytes, output_bytes, lines_printed, Prints, text_refused, reach_refused, front_listed, AnswerPut}
 
 -- two answers to one text are the same
@@ -108,19 +107,24 @@ program_sizes = length (replicate {A = ℕ} places 0) ∷ length (rows_of 4) ∷
 program_sizes_are : program_sizes ≡ places ∷ places ∷ places ∷ places ∷ []
 program_sizes_are = rw (length-replicate {A = ℕ} places 0, length-replicate places (replicate {A = ℕ} 4 0), length-replicate places (replicate {A = ℕ} 64 0), length-replicate places (replicate {A = ℕ} 8 0)) refl
 
-sizes_right : SizesAllowed program_sizes
-sizes_right n m = of (rw program_sizes_are at m)
-  where
-    of : Memᴰ n (places ∷ places ∷ places ∷ places ∷ []) → (1 ≤ n) × (n ≤ max_places)
-    of (Memᴰ.head e) = (omega (arith, e), omega (arith, e))
-    of (Memᴰ.tail (Memᴰ.head e)) = (omega (arith, e), omega (arith, e))
-    of (Memᴰ.tail (Memᴰ.tail (Memᴰ.head e))) = (omega (arith, e), omega (arith, e))
-    of (Memᴰ.tail (Memᴰ.tail (Memᴰ.tail (Memᴰ.head e)))) = (omega (arith, e), omega (arith, e))
-    of (Memᴰ.tail (Memᴰ.tail (Memᴰ.tail (Memᴰ.tail e)))) = absurd (Memᴰ.not-nil e)
+-- a workspace of what the program lends
+module _ (w : Lent Workspace) (lends : (slices_in w).before ≡ program_slices) where
+  sizes_are : sizes_of w.before ≡ places ∷ places ∷ places ∷ places ∷ []
+  sizes_are = ap (λ (s : List Slice). map M.places s) lends ∙ program_sizes_are
 
-sizes_shortest : shortest program_sizes ≡ places
-unfolding shortest
-sizes_shortest = ap shortest program_sizes_are
+  sizes_right : SizesAllowed (sizes_of w.before)
+  sizes_right n m = of (rw sizes_are at m)
+    where
+      of : Memᴰ n (places ∷ places ∷ places ∷ places ∷ []) → (1 ≤ n) × (n ≤ max_places)
+      of (Memᴰ.head e) = (omega (arith, e), omega (arith, e))
+      of (Memᴰ.tail (Memᴰ.head e)) = (omega (arith, e), omega (arith, e))
+      of (Memᴰ.tail (Memᴰ.tail (Memᴰ.head e))) = (omega (arith, e), omega (arith, e))
+      of (Memᴰ.tail (Memᴰ.tail (Memᴰ.tail (Memᴰ.head e)))) = (omega (arith, e), omega (arith, e))
+      of (Memᴰ.tail (Memᴰ.tail (Memᴰ.tail (Memᴰ.tail e)))) = absurd (Memᴰ.not-nil e)
+
+  sizes_shortest : shortest (sizes_of w.before) ≡ places
+  unfolding shortest
+  sizes_shortest = ap shortest sizes_are
 
 -- what fits one list of the front's lines fits any
 entries_fit : {ls ls' : List Line} → length (map entry_for ls) ≤ length (replicate room blank) → ls ≡ ls' → length ls' ≤ room
@@ -139,35 +143,34 @@ module _ {text output : List ℕ} (long : length output ≡ output_bytes) (z : (
   shown_no q h e same p = rw e (shown_refusal h (omega arith) p same)
 
   -- the promise with what the program lends
-  promise_shown : {S' : List ℕ} {X' L' R' : List (List ℕ)} {es : List Entry} {plans' output' : List ℕ} {r : Returned Counts}
-      → ReportCall (parse text).task (from (replicate places 0) S') (from (replicate places (replicate 4 0)) X') (from (replicate places (replicate 64 0)) L')
-      (from (replicate places (replicate 8 0)) R') (from (replicate room blank) es) (from (replicate plan_numbers 0) plans') (from output output') r → Shown text output output' r
-  promise_shown (no_to a e) = absurd (a (sizes_right))
-  promise_shown (yes_to _ (no_to a e)) = absurd (a (read_valid text (parse text).task (parse_accepted text z)))
-  promise_shown (yes_to _ (yes_to _ (no_to a e))) =
-      let short = sizes_shortest in
+  promise_shown : (w : Lent Workspace) → (slices_in w).before ≡ program_slices → {es : List Entry} {plans' output' : List ℕ} {r : Returned Counts}
+      → ReportCall (parse text).task w (from (replicate room blank) es) (from (replicate plan_numbers 0) plans') (from output output') r → Shown text output output' r
+  promise_shown w lends (no_to a e) = absurd (a (sizes_right w lends))
+  promise_shown w lends (yes_to _ (no_to a e)) = absurd (a (read_valid text (parse text).task (parse_accepted text z)))
+  promise_shown w lends (yes_to _ (yes_to _ (no_to a e))) =
+      let short = sizes_shortest w lends in
       shown_no 13 (omega arith) e.returns (ap (λ (m : Memory). m.text) e.leaves) (reach_refused z (λ f. a (rw short f)))
-  promise_shown (yes_to _ (yes_to _ (yes_to f (no_to a e)))) =
+  promise_shown w lends (yes_to _ (yes_to _ (yes_to f (no_to a e)))) =
       let ls = a.it in
-      let fits = rw (sizes_shortest) at f in
+      let fits = rw (sizes_shortest w lends) at f in
       let few = few_entries ls (omega (arith, a.holds, length-map ls entry_for, length-replicate room blank)) in
       shown_no 14 (omega arith) e.returns (ap (λ (m : Memory). m.text) e.leaves) (rw (← few) (front_listed z fits a.found))
-  promise_shown (yes_to _ (yes_to _ (yes_to f (yes_to a (no_to b e))))) =
+  promise_shown w lends (yes_to _ (yes_to _ (yes_to f (yes_to a (no_to b e))))) =
       let ls = b.it in
-      let fits = rw (sizes_shortest) at f in
+      let fits = rw (sizes_shortest w lends) at f in
       let entries = entries_fit a.holds (front_unique (parse text).task a.found b.found) in
       let few = few_numbers ls entries (omega (arith, b.holds, length-replicate {A = ℕ} plan_numbers 0)) in
       shown_no 15 (omega arith) e.returns (ap (λ (m : Memory). m.text) e.leaves) (rw (← few) (front_listed z fits b.found))
-  promise_shown (yes_to _ (yes_to _ (yes_to f (yes_to a (yes_to b (no_to c e)))))) =
+  promise_shown w lends (yes_to _ (yes_to _ (yes_to f (yes_to a (yes_to b (no_to c e)))))) =
       let ls = c.it in
-      let fits = rw (sizes_shortest) at f in
+      let fits = rw (sizes_shortest w lends) at f in
       let entries = entries_fit a.holds (front_unique (parse text).task a.found c.found) in
       let numbers = numbers_fit b.holds (front_unique (parse text).task b.found c.found) in
       let few = few_bytes ls entries numbers (omega (arith, c.holds, long)) in
       shown_no 16 (omega arith) e.returns (ap (λ (m : Memory). m.text) e.leaves) (rw (← few) (front_listed z fits c.found))
-  promise_shown {r = r} (yes_to _ (yes_to _ (yes_to f (yes_to a (yes_to b (yes_to c (answered d))))))) =
+  promise_shown w lends (yes_to _ (yes_to _ (yes_to f (yes_to a (yes_to b (yes_to c (answered d))))))) =
       let ls = d.it in
-      let fits = rw (sizes_shortest) at f in
+      let fits = rw (sizes_shortest w lends) at f in
       let entries = entries_fit a.holds (front_unique (parse text).task a.found d.found) in
       let numbers = numbers_fit b.holds (front_unique (parse text).task b.found d.found) in
       let bytes : length (report_text ls) ≤ output_bytes = omega (arith, c.holds, long, ap (λ (l : List Line). length (report_text l)) (front_unique (parse text).task c.found d.found)) in
@@ -183,15 +186,15 @@ module _ {text output : List ℕ} (long : length output ≡ output_bytes) (z : (
 shown : {text output output' : List ℕ} {r : Returned Counts} → length output ≡ output_bytes → Answered (parse text) output output' r → Shown text output output' r
 shown {text} {output} {output'} {r} long x = of x.call
   where
-    of : TextCall (parse text) (from (replicate places 0) x.states) (from (replicate places (replicate 4 0)) x.index) (from (replicate places (replicate 64 0)) x.links)
-        (from (replicate places (replicate 8 0)) x.rows) room (from (replicate plan_numbers 0) x.plans) (from output output') r → Shown text output output' r
+    of : TextCall (parse text) x.work room (from (replicate plan_numbers 0) x.plans) (from output output') r → Shown text output output' r
     of (unread f y) = rw y.returns (shown_refusal f (parse_place text) (text_refused f) y.text_kept)
-    of (read_as z y) = promise_shown long z y.1
+    of (read_as z y) = promise_shown long z x.work x.lends y.1
 
-pub written_put : {text output output' : List ℕ} {p : Reported} {k b : ℕ} → length output ≡ output_bytes → p ≡ Written k b → Answered (parse text) output output' (returned p) → AnswerPut text output output' b
-written_put {text} {output} {output'} {k = k} {b = b} long e a = of (shown {text = text} long (rw e at a))
+pub written_put : {text output output' : List ℕ} (w : Written) → length output ≡ output_bytes → Answered (parse text) output output' (returned (Ok w))
+    → AnswerPut text output output' w.bytes
+written_put {text} {output} {output'} w long a = of (shown {text = text} long a)
   where
-    of : Shown text output output' (record { number = 0; place = 0; values = counts k b }) → AnswerPut text output output' b
+    of : Shown text output output' (returned (Ok w)) → AnswerPut text output output' w.bytes
     of (shown_refusal f l x y) = absurd (omega arith)
     of (shown_report f x) = x
 
@@ -201,23 +204,23 @@ pub record Refuses (text output output' : List ℕ) (q : Refusal) : Type 0 where
   pub prints : Prints text (refusal_text (number_of q) (place_of q))
   pub kept : output' ≡ output
 
-pub refused_prints : {text output output' : List ℕ} {p : Reported} {q : Refusal} → length output ≡ output_bytes → p ≡ Refused q → Answered (parse text) output output' (returned p) → Refuses text output output' q
-refused_prints {text} {output} {output'} {q = q} long e a = of (shown {text = text} long (rw e at a))
+pub refused_prints : {text output output' : List ℕ} {q : Refusal} → length output ≡ output_bytes → Answered (parse text) output output' (returned (Err q)) → Refuses text output output' q
+refused_prints {text} {output} {output'} {q = q} long a = of (shown {text = text} long a)
   where
-    of : Shown text output output' (returned (Refused q)) → Refuses text output output' q
+    of : Shown text output output' (returned (Err q)) → Refuses text output output' q
     of (shown_refusal f l x y) = record { few = l; prints = x; kept = y }
     of (shown_report f x) = absurd (omega (arith, number_some q))
 
--- the text of a refusal that the call makes of its number and place
-module _ {text output output' : List ℕ} {q : Refusal} {n place : ℕ} (long : length output ≡ output_bytes) (x : Refuses text output output' q) (h : n ≤ max_number) (e : n ≡ number_of q) (f : place ≡ place_of q) where
-  pub refusal_fits : length (refusal_text n place) ≤ length output'
-  refusal_fits = omega (arith, refusal_few n place h (omega (arith, x.few)), ap length x.kept)
+-- the text of a refusal
+module _ {text output output' : List ℕ} {q : Refusal} (long : length output ≡ output_bytes) (x : Refuses text output output' q) where
+  abbrev printed : List ℕ
+  printed = refusal_text (number_of q) (place_of q)
 
-  pub refusal_put : {output'' : List ℕ} {r : ℕ} → Puts (refusal_text n place) 0 output' output'' r → AnswerPut text output output'' r
-  refusal_put y =
-      let bytes = refusal_text n place in
-      let front = y.text ∙ put_over bytes output' refusal_fits in
-      record { printed = bytes; prints = rw (e, f) x.prints; output = rw x.kept at front; bytes = y.end ∙ zero-add (length bytes) }
+  pub refusal_fits : length printed ≤ length output'
+  refusal_fits = omega (arith, refusal_few (number_of q) (place_of q) (omega (arith, number_few q)) (omega (arith, x.few)), ap length x.kept)
+
+  pub refusal_put : {output'' : List ℕ} {r : ℕ} → r ≡ length printed → output'' ≡ over printed output' → AnswerPut text output output'' r
+  refusal_put bytes put = record { printed = printed; prints = x.prints; output = rw x.kept at put; bytes = bytes }
 
 -- what is printed fits the output
 pub put_fits : {text output output' : List ℕ} {r : ℕ} → AnswerPut text output output' r → r ≤ length output'

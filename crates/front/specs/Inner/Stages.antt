@@ -1,20 +1,22 @@
 -- The stages of the search for the front's lines, with n places for states.
-use Rattle.std.specs.Prelude.{◌≡◌, List, [], ◌∷◌, ℕ, ◌+◌, ◌≤◌, length, replicate}
+use Rattle.std.specs.Prelude.{◌≡◌, List, [], ◌∷◌, ℕ, ◌≤◌, length, Result, MatchResult}
 use Rattle.strips.specs.declared.Task.{Task}
+use Rattle.outcome.specs.declared.Refusal.{Refusal}
 use Rattle.search.specs.Reachable.{Fits}
-use Rattle.rows.specs.Cleared.{everywhere, zeros}
 use Rattle.questions.specs.Lent.{Lent}
 use Rattle.questions.specs.Memory.{Room}
 use Rattle.questions.specs.Call.{Returned, Asks, done, refused}
+use Rattle.questions.specs.Workspace.{Cleared, RowsKept}
+use Rattle.questions.specs.declared.workspace.Workspace.{Workspace}
 use Rattle.pareto.specs.Layout.{plans_for}
+use Rattle.planner.specs.Searches.{OrTooMany}
 use Rattle.front_lines.specs.Lines.{Chosen}
 use Rattle.front.specs.FrontCall.{front_call}
 use Rattle.front.specs.Asked.{InRows, RefusedLeft, DoneLeft}
 
--- r rows are noted, whose lines are the front; or the states do not fit
-pub data LinesFound (t : Task) (n : ℕ) (R : List (List ℕ)) (r : ℕ) : Type 0 where
-  found : Fits t n → r ≤ n → Chosen t R r → LinesFound t n R r
-  unfit : r ≡ n + 1 → (Fits t n → ⊥) → LinesFound t n R r
+-- so many rows are noted, whose lines are the front; or the states do not fit
+abbrev pub LinesFound : Task → ℕ → List (List ℕ) → Result ℕ Refusal → Type 0
+LinesFound t n R r = OrTooMany (λ k. Fits t n × Chosen t R k) (Fits t n) r
 
 -- the questions about the lines
 abbrev pub lines_asks : List ℕ
@@ -30,13 +32,9 @@ LinesAsked t n entries numbers R r =
     Asks (front_call t) lines_asks (places_room n entries numbers) (λ q. r ≡ refused (front_call t) q) (λ lines. (r ≡ done (front_call t) lines) × InRows R lines × (length lines ≤ entries) × (length (plans_for lines) ≤ numbers))
 
 -- all is cleared, but for the rows of lines
-pub record UsedCleared (r : Returned ℕ) (S : Lent (List ℕ)) (X L R : Lent (List (List ℕ))) : Type 0 where
-  pub states : S.after ≡ zeros S.before
-  pub index : X.after ≡ everywhere (replicate 4 0) X.before
-  pub links : L.after ≡ everywhere (replicate 64 0) L.before
-  pub no_lines : r.values ≡ 0 → R.after ≡ everywhere (replicate 8 0) R.before
-  pub lines : 1 ≤ r.values → R.after ≡ R.before
+abbrev pub UsedCleared : Result ℕ Refusal → Lent Workspace → Type 0
+UsedCleared r w = MatchResult r (λ k. RowsKept w) (λ q. Cleared w)
 
--- the same questions, with all working slices
-abbrev pub LinesListed : Task → (n entries numbers : ℕ) → Lent (List ℕ) → (X L R : Lent (List (List ℕ))) → Returned ℕ → Type 0
-LinesListed t n entries numbers S X L R r = Asks (front_call t) lines_asks (places_room n entries numbers) (RefusedLeft t S X L R r) (DoneLeft t S X L R entries numbers r)
+-- the same questions, with the whole workspace
+abbrev pub LinesListed : Task → (n entries numbers : ℕ) → Lent Workspace → Returned ℕ → Type 0
+LinesListed t n entries numbers w r = Asks (front_call t) lines_asks (places_room n entries numbers) (RefusedLeft t w r) (DoneLeft t w entries numbers r)

@@ -1,70 +1,85 @@
--- With the entries stored, what `list_front` promises is what the call promises; and that determines all.
-use Rattle.std.specs.Prelude.{◌≡◌, refl, List, [], map, ℕ, ◌≤◌, length, replicate}
+-- With plans and entries written, what `ask_front` promises is what the call promises; and that determines all.
+use Rattle.std.specs.Prelude.{◌≡◌, refl, List, [], map, ℕ, ◌≤◌, length, replicate, Ok, Err}
 use Rattle.std.proofs.Math.Path.{ap}
 use Rattle.std.proofs.Common.{◌∙◌, arith}
 use Rattle.std.proofs.lemmas.List.{length-map}
 use Rattle.strips.specs.declared.Task.{Task}
+use Rattle.outcome.specs.Laws.Refusal.{number_some}
 use Rattle.outcome.specs.declared.Entry.{Entry}
-use Rattle.rows.specs.Cleared.{everywhere}
+use Rattle.outcome.specs.declared.Refusal.{Refusal}
 use Rattle.rows.specs.Laws.Cleared.{everywhere_same}
 use Rattle.questions.specs.Lent.{Lent, over}
-use Rattle.questions.specs.Memory.{Memory, Slice, four_slices}
+use Rattle.questions.specs.Memory.{Memory, Slice}
 use Rattle.questions.specs.Call.{Returned, Promise}
 use Rattle.questions.specs.Laws.Asked.{asked_all}
 use Rattle.questions.specs.Laws.Unique.{left, promise_unique}
+use Rattle.questions.specs.Laws.Workspace.{from_to, with_rows, four_cleared}
+use Rattle.questions.specs.Workspace.{slices_in}
+use Rattle.questions.specs.declared.workspace.Workspace.{Workspace}
 use Rattle.pareto.specs.Front.{Line}
-use Rattle.pareto.specs.Layout.{entry_for}
+use Rattle.pareto.specs.Layout.{entry_for, plans_for}
 use Rattle.pareto.specs.Laws.Unique.{front_unique}
-use Rattle.planner.specs.Laws.Workspace.{four_cleared}
 use Rattle.front_lines.specs.Lines.{lines_in}
 use Rattle.front_entries.specs.Entries.{stored, rows_left}
-use Rattle.front_entries.specs.Laws.Entries.{stored_is, left_start, left_cleared}
-use Rattle.front.specs.FrontCall.{front_call, FrontCall}
-use Rattle.front.specs.Asked.{FrontListed}
+use Rattle.front_entries.specs.Laws.Entries.{stored_is, left_cleared}
+use Rattle.front.specs.FrontCall.{front_call, FrontCall, returned}
+use Rattle.front.specs.Asked.{FrontAsked}
 use Rattle.front.specs.Laws.Stages.{some_lines}
 
--- entries and rows when the entries of n lines are stored
-module _ (es : List Entry) (R₁ : List (List ℕ)) (n : ℕ) {es' : List Entry} {R' : List (List ℕ)} (e : es' ≡ stored es R₁ n) (l : R' ≡ rows_left R₁ n n) where
-  pub nothing_stored : n ≡ 0 → (es' ≡ es) × (R' ≡ R₁)
-  unfolding stored
-  nothing_stored z = (e ∙ ap (stored es R₁) z, l ∙ ap (λ (k : ℕ). rows_left R₁ k k) z ∙ left_start R₁ 0)
+-- the entries of n lines
+pub entries_stored : (es : List Entry) (R : List (List ℕ)) (n : ℕ) {es' : List Entry} → es' ≡ stored es R n → n ≤ length es → n ≤ length R
+    → {lines : List Line} → lines_in R n ≡ lines → n ≡ length lines → es' ≡ over (map entry_for lines) es
+entries_stored es R n e h m {lines} same k =
+    e ∙ stored_is es R n h m ∙ rw (same, k, length-map lines entry_for) refl
 
-  pub entries_stored : n ≤ length es → n ≤ length R₁ → {lines : List Line} → lines_in R₁ n ≡ lines → n ≡ length lines → es' ≡ over (map entry_for lines) es
-  entries_stored h m {lines} same k =
-      e ∙ stored_is es R₁ n h m ∙ rw (same, k, length-map lines entry_for) refl
+-- untouched
+abbrev same : {A : Type 0} → A → Lent A
+same x = record { before = x; after = x }
 
-  pub rows_cleared : 1 ≤ n → (R : List (List ℕ)) → length R₁ ≡ length R → R' ≡ everywhere (replicate 8 0) R
-  rows_cleared h R size = l ∙ left_cleared R₁ n h ∙ everywhere_same (replicate 8 0) R R₁ size
+module _ (t : Task) (b a₁ : Workspace) (es : List Entry) (plans : List ℕ) where
+  abbrev R₁ : List (List ℕ)
+  R₁ = a₁.rows.now
 
-module _ (t : Task) (S : Lent (List ℕ)) (X L : Lent (List (List ℕ))) (R R₁ R' : List (List ℕ)) (es es' : List Entry) (plans : Lent (List ℕ)) (r : Returned ℕ) where
-  -- what is left in what is lent
-  four : {s : List Slice} {es'' : List Entry} {ps : List ℕ} → four_slices S.after X.after L.after R' ≡ s → es' ≡ es'' → plans.after ≡ ps
-      → ◌≡◌ {A = Memory} (record { slices = four_slices S.after X.after L.after R'; entries = es'; plans = plans.after; text = [] })
-      (record { slices = s; entries = es''; plans = ps; text = [] })
-  four a b c = rw (a, b, c) refl
+  -- where only the rows have been written to since
+  abbrev ending : List (List ℕ) → Lent Workspace
+  ending R' = from_to b (with_rows a₁ R')
 
-  pub front_promised : FrontListed t S X L (record { before = R; after = R₁ }) plans (length es) r → es' ≡ stored es R₁ r.values → R' ≡ rows_left R₁ r.values r.values
-      → FrontCall t S X L (record { before = R; after = R' }) (record { before = es; after = es' }) plans r
-  front_promised x e l = asked_all
-      (λ q y.
-      let none = nothing_stored es R₁ r.values e l (ap (λ (z : Returned ℕ). z.values) y.refusal.returns) in
-      record { returns = y.refusal.returns; leaves = four (ap (four_slices S.after X.after L.after) none.1 ∙ y.refusal.slices) none.0 y.kept })
-      (λ d.
-      let y = d.holds.success in
-      let held = y.left.held in
-      let count = ap (λ (z : Returned ℕ). z.values) y.returns in
-      let same : lines_in R₁ r.values ≡ d.it = ap (lines_in R₁) count ∙ held.same in
-      let clear = rows_cleared es R₁ r.values e l (omega (arith, count, some_lines d.found)) R y.left.size in
-      record {
-        it = d.it;
-        found = d.found;
-        holds = record {
-          returns = y.returns;
-          leaves = four (four_cleared S.before X.before L.before R y.left.states y.left.index y.left.links clear)
-              (entries_stored es R₁ r.values e l (omega (arith, count, y.entries_fit)) (omega (arith, count, held.listed.inside)) same count) d.holds.written;
-        };
-      })
-      x
+  -- no entry and no plan is written after a refusal
+  pub refusal_promised : (q : Refusal) → FrontAsked t (from_to b a₁) (length es) (length plans) (returned (Err q))
+      → FrontCall t (from_to b a₁) (same es) (same plans) (returned (Err q))
+  refusal_promised q = asked_all
+      (λ k y. record { returns = y.returns; leaves = ap (λ (s : List Slice). record { slices = s; entries = es; plans = plans; text = [] }) y.slices })
+      (λ d. absurd (omega (arith, number_some q, ap (λ (z : Returned ℕ). z.number) d.holds.returns)))
+
+  module _ {R' : List (List ℕ)} {es' : List Entry} {plans' : List ℕ} (k : ℕ) where
+    -- what is left in what is lent
+    four : {s : List Slice} {es'' : List Entry} {ps : List ℕ} → (slices_in (ending R')).after ≡ s → es' ≡ es'' → plans' ≡ ps
+        → ◌≡◌ {A = Memory} (record { slices = (slices_in (ending R')).after; entries = es'; plans = plans'; text = [] })
+        (record { slices = s; entries = es''; plans = ps; text = [] })
+    four x y z = rw (x, y, z) refl
+
+    -- with entries and plans of the lines
+    pub lines_promised : FrontAsked t (from_to b a₁) (length es) (length plans) (returned (Ok k)) → plans' ≡ over (plans_for (lines_in R₁ k)) plans → es' ≡ stored es R₁ k → R' ≡ rows_left R₁ k
+        → FrontCall t (ending R') (record { before = es; after = es' }) (record { before = plans; after = plans' }) (returned (Ok k))
+    lines_promised x p e l = asked_all
+        (λ q y. absurd (omega (arith, y.some, ap (λ (z : Returned ℕ). z.number) y.returns)))
+        (λ d.
+        let y = d.holds in
+        let held = y.left.held in
+        let count : k ≡ length d.it = ap (λ (z : Returned ℕ). z.values) y.returns in
+        let same : lines_in R₁ k ≡ d.it = ap (lines_in R₁) count ∙ held.same in
+        let clear = l ∙ left_cleared R₁ k (omega (arith, count, some_lines d.found)) ∙ everywhere_same (replicate 8 0) b.rows.now R₁ y.left.size in
+        record {
+          it = d.it;
+          found = d.found;
+          holds = record {
+            returns = y.returns;
+            leaves = four (four_cleared _ _ _ _ y.left.states y.left.index y.left.links clear)
+                (entries_stored es R₁ k e (omega (arith, count, y.entries_fit)) (omega (arith, count, held.listed.inside)) same count)
+                (p ∙ ap (λ (ls : List Line). over (plans_for ls) plans) same);
+          };
+        })
+        x
 
 -- the promise determines what is returned, and what every lent place holds then
 pub front_call_unique : (t : Task) {b a₁ a₂ : Memory} {r₁ r₂ : Returned ℕ} → Promise (front_call t) (left b a₁) r₁ → Promise (front_call t) (left b a₂) r₂ → (r₁ ≡ r₂) × (a₁ ≡ a₂)

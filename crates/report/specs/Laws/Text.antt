@@ -16,46 +16,33 @@ use Rattle.report_text.specs.Report.{line_text, lines_text, head_text, report_te
 use Rattle.report_text.specs.Entries.{entry_steps, line_from}
 use Rattle.report_text.specs.Laws.Entries.{leader_steps, follower_steps, line_from_lem}
 
--- the plan numbers from a place on: the plans of these lines, and what is beyond them
-pub record Ahead (plans : List ℕ) (from : ℕ) (lines : List Line) (beyond : List ℕ) : Type 0 where
-  pub place : from + length (plans_for lines) + length beyond ≡ length plans
-  pub numbers : drop from plans ≡ plans_for lines ++ beyond
-
-pub ahead_start : {plans beyond : List ℕ} (lines : List Line) → plans ≡ plans_for lines ++ beyond → Ahead plans 0 lines beyond
-ahead_start {beyond = beyond} lines e = record { place = omega (arith, ap length e, length-append (plans_for lines) beyond); numbers = e }
-
--- the next line
-module _ {plans beyond : List ℕ} {from : ℕ} (l : Line) (ls : List Line) (a : Ahead plans from (l ∷ ls) beyond) (e : Entry) (is : e ≡ entry_for l) where
-  steps : entry_steps e ≡ length l.leader_plan + length l.follower_plan
-  steps = rw is (omega (arith, leader_steps l, follower_steps l))
-
-  long : length (plans_for (l ∷ ls)) ≡ entry_steps e + length (plans_for ls)
-  unfolding plans_for
-  long = omega (arith, steps, length-append l.leader_plan (l.follower_plan ++ plans_for ls), length-append l.follower_plan (plans_for ls))
-
-  pub line_fits : from + entry_steps e ≤ length plans
-  line_fits = omega (arith, a.place, long)
-
-  parts : drop from plans ≡ l.leader_plan ++ (l.follower_plan ++ (plans_for ls ++ beyond))
+-- the next line, whose plans are the first of the plan numbers
+module _ {rest : List ℕ} (beyond : List ℕ) (l : Line) (ls : List Line) (a : rest ≡ plans_for (l ∷ ls) ++ beyond) (e : Entry) (is : e ≡ entry_for l) where
+  parts : rest ≡ l.leader_plan ++ (l.follower_plan ++ (plans_for ls ++ beyond))
   unfolding plans_for
   parts =
-      a.numbers ∙ append_assoc l.leader_plan (l.follower_plan ++ plans_for ls) beyond ∙ ap (λ (p : List ℕ). l.leader_plan ++ p) (append_assoc l.follower_plan (plans_for ls) beyond)
+      a ∙ append_assoc l.leader_plan (l.follower_plan ++ plans_for ls) beyond ∙ ap (λ (p : List ℕ). l.leader_plan ++ p) (append_assoc l.follower_plan (plans_for ls) beyond)
 
-  pub line_is : line_from e (drop from plans) ≡ l
+  lead : length l.leader_plan ≡ e.leader_steps
+  lead = rw is (sym (leader_steps l))
+
+  follow : length l.follower_plan ≡ e.follower_steps
+  follow = rw is (sym (follower_steps l))
+
+  pub line_fits : entry_steps e ≤ length rest
+  line_fits =
+      let both = length-append l.leader_plan (l.follower_plan ++ (plans_for ls ++ beyond)) in
+      omega (arith, lead, follow, ap length parts, both, length-append l.follower_plan (plans_for ls ++ beyond))
+
+  pub line_is : line_from e rest ≡ l
   line_is = ap (line_from e) parts ∙ line_from_lem l e is (plans_for ls ++ beyond)
 
-  pub ahead_more : Ahead plans (from + e.leader_steps + e.follower_steps) ls beyond
-  ahead_more =
-      let lead : length l.leader_plan ≡ e.leader_steps = rw is (sym (leader_steps l)) in
-      let follow : length l.follower_plan ≡ e.follower_steps = rw is (sym (follower_steps l)) in
-      record {
-        place = omega (arith, a.place, long);
-        numbers =
-            sym (drop-drop e.follower_steps (from + e.leader_steps) plans)
-            ∙ ap (drop e.follower_steps) (sym (drop-drop e.leader_steps from plans) ∙ ap (drop e.leader_steps) parts
-            ∙ drop_at l.leader_plan (l.follower_plan ++ (plans_for ls ++ beyond)) e.leader_steps lead)
-            ∙ drop_at l.follower_plan (plans_for ls ++ beyond) e.follower_steps follow;
-      }
+  -- behind them are those of the others
+  pub plans_next : drop (entry_steps e) rest ≡ plans_for ls ++ beyond
+  plans_next =
+      sym (drop-drop e.follower_steps e.leader_steps rest)
+      ∙ ap (drop e.follower_steps) (ap (drop e.leader_steps) parts ∙ drop_at l.leader_plan (l.follower_plan ++ (plans_for ls ++ beyond)) e.leader_steps lead)
+      ∙ drop_at l.follower_plan (plans_for ls ++ beyond) e.follower_steps follow
 
 -- the lines from place k on
 module _ (R : List (List ℕ)) (count k : ℕ) (inside : count ≤ length R) where

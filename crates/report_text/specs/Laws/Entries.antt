@@ -1,7 +1,7 @@
 -- The lines that entries and plan numbers say.
-use Rattle.std.specs.Prelude.{◌≡◌, ℕ, ◌+◌, ◌-◌, length, take, drop}
+use Rattle.std.specs.Prelude.{◌≡◌, ℕ, length, take, drop}
 use Rattle.std.proofs.Math.Path.{refl, sym, ap}
-use Rattle.std.proofs.Common.{◌∙◌, arith, drop_at, drop-drop}
+use Rattle.std.proofs.Common.{◌∙◌, drop_at}
 use mathlib.Core.List.{List, ◌++◌}
 use Rattle.std.proofs.Math.Seq.{take_at}
 use Rattle.outcome.specs.declared.Entry.{Entry}
@@ -30,14 +30,3 @@ module _ (l : Line) where
       ∙ ap (λ (q : List ℕ). line_of e l.leader_plan q)
       (ap (take e.follower_steps) (drop_at l.leader_plan (l.follower_plan ++ others) e.leader_steps first) ∙ take_at l.follower_plan others e.follower_steps second)
       ∙ entry_line e l is
-
--- the parts that the code marks off
-pub line_parts : (e : Entry) (plans : List ℕ) (from : ℕ)
-    → line_of e (take (from + e.leader_steps - from) (drop from plans))
-    (take (from + e.leader_steps + e.follower_steps - (from + e.leader_steps)) (drop (from + e.leader_steps) plans))
-    ≡ line_from e (drop from plans)
-unfolding line_from
-line_parts e plans from =
-    let leader : from + e.leader_steps - from ≡ e.leader_steps = omega arith in
-    let follower : from + e.leader_steps + e.follower_steps - (from + e.leader_steps) ≡ e.follower_steps = omega arith in
-    rw (leader, follower, drop-drop e.leader_steps from plans)

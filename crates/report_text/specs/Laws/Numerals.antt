@@ -1,6 +1,6 @@
 -- The decimal digits of a number: that they say it, how many there are, and the last of them.
-use Rattle.std.specs.Prelude.{◌≡◌, [], ◌∷◌, ◌++◌, ℕ, zero, suc, ◌+◌, ◌-◌, ◌/◌, ◌%◌, ◌^◌, ◌≤◌, ◌<◌, length}
-use Rattle.std.proofs.Common.{sym, ap, ◌∙◌, arith, pow-suc}
+use Rattle.std.specs.Prelude.{◌≡◌, [], ◌∷◌, ◌++◌, ℕ, zero, suc, ◌+◌, ◌-◌, ◌*◌, ◌/◌, ◌%◌, ◌^◌, ◌≤◌, ◌<◌, length}
+use Rattle.std.proofs.Common.{sym, ap, ◌∙◌, arith, pow-suc, length-append}
 use Rattle.outcome.specs.Limits.{max_number}
 use Rattle.task_format.specs.Text.{zero_digit}
 use Rattle.task_format.specs.Value.{All, IsDigit, decimal}
@@ -44,6 +44,9 @@ byte_few n h = numeral_few 3 n (omega arith) (omega arith)
 pub number_below : (n : ℕ) → n ≤ max_number → n < 10 ^ number_digits
 number_below n h = omega arith
 
+pub number_is : (n : ℕ) → n ≤ max_number → digits_of number_digits n ≡ numeral n
+number_is n h = numeral_is number_digits n (omega arith) (number_below n h)
+
 pub number_few : (n : ℕ) → n ≤ max_number → length (numeral n) ≤ number_digits
 number_few n h = numeral_few number_digits n (omega arith) (number_below n h)
 
@@ -57,3 +60,12 @@ numeral_long n h =
     let e : suc n - 1 ≡ n = omega arith in
     let less : n / 10 < 10 ^ n = rw e at (shorter (suc n) n h (below n)).below in
     digits_long (suc n) n (omega arith) h ∙ rw (e, numeral_is n (n / 10) (omega arith) less)
+
+-- as many as the powers of ten between which it lies say
+pub numeral_many : (k n : ℕ) → 10 ^ k ≤ n → n < 10 * 10 ^ k → length (numeral n) ≡ k + 1
+numeral_many zero n l h = ap length (numeral_short n h)
+numeral_many (suc k) n l h =
+    let p = pow-suc 10 k in
+    let long : 10 ≤ n = omega (arith, p) in
+    let rest = numeral_many k (n / 10) (omega (arith, p)) (omega (arith, p)) in
+    ap length (numeral_long n long) ∙ length-append (numeral (n / 10)) _ ∙ omega (arith, rest)

@@ -1,60 +1,38 @@
 -- The bytes of a front's text, part by part.
-use Rattle.std.specs.Prelude.{◌≡◌, refl, List, [], ◌∷◌, ◌++◌, ℕ, ◌+◌, ◌*◌, ◌/◌, ◌≤◌, ◌<◌, length, get_or, drop}
-use Rattle.std.proofs.Common.{sym, ap, ◌∙◌, arith, add-one, length-append, drop_of_length-le, drop-cons}
+use Rattle.std.specs.Prelude.{◌≡◌, refl, List, [], ◌∷◌, ◌++◌, ℕ, ◌+◌, ◌-◌, ◌*◌, ◌≤◌, ◌<◌, length, get_or, drop}
+use Rattle.std.proofs.Common.{sym, ap, ◌∙◌, arith, add-one, length-append, drop-cons}
+use Rattle.std.proofs.lemmas.List.{get_or_past}
 use Rattle.outcome.specs.Limits.{max_number}
 use Rattle.outcome.specs.Answer.{Value, minutes, none, value_of}
+use Rattle.outcome.specs.Refusal.{number_of, place_of}
+use Rattle.outcome.specs.Laws.Refusal.{refusal_of, refusal_of_lem}
+use Rattle.outcome.specs.declared.Refusal.{Refusal}
+use Rattle.outcome.specs.declared.Refusal.TheVariants.{TextTooLong}
+use Rattle.task_format.specs.Deciders.{dec_at_most}
 use Rattle.task_format.specs.Text.{newline, comma}
 use Rattle.task_format.specs.Lines.{outages_key, moves_key}
 use Rattle.pareto.specs.Front.{Line}
-use Rattle.outcome.specs.declared.Answer.{Answer}
-use Rattle.outcome.specs.declared.Answer.TheVariants.{Cost}
-use Rattle.outcome.specs.declared.Minutes.{Minutes}
 use Rattle.outcome.specs.declared.Entry.{Entry}
 use Rattle.pareto.specs.Layout.{answer_for, entry_for}
 use Rattle.report_text.specs.Report.{entries_key, price_key, answer_key, numeral, further_text, plan_text, answer_text, printed, line_text, lines_text, head_text, report_text, refused_key, line_key, refusal_text}
 use Rattle.report_text.specs.Entries.{line_of, entry_bytes}
 use Rattle.text_output.specs.Puts.{number_digits}
-use Rattle.report_text.specs.Laws.Numerals.{numeral_short, numeral_long, number_few}
+use Rattle.report_text.specs.Laws.Numerals.{numeral_short}
+use Rattle.report_text.specs.Laws.Numerals as N
 
 -- ---- numbers
-
-pub digits_last : (n : ℕ) → 10 ≤ n → length (numeral n) ≡ length (numeral (n / 10)) + 1
-digits_last n h = ap length (numeral_long n h) ∙ length-append (numeral (n / 10)) _
 
 pub digits_one : (n : ℕ) → n < 10 → length (numeral n) ≡ 1
 digits_one n h = ap length (numeral_short n h)
 
 -- ---- plans
 
-pub plan_none : (plan : List ℕ) → length plan ≡ 0 → plan_text plan ≡ []
-unfolding plan_text
-plan_none [] e = refl
-plan_none (n ∷ ns) e = absurd (omega arith)
-
-pub plan_first : (plan : List ℕ) → 0 < length plan → plan_text plan ≡ numeral (get_or plan 0 0) ++ further_text (drop 1 plan)
-unfolding plan_text
-plan_first [] h = absurd (omega arith)
-plan_first (n ∷ ns) h = refl
-
-pub further_none : (plan : List ℕ) (i : ℕ) → length plan ≤ i → further_text (drop i plan) ≡ []
-unfolding further_text
-further_none plan i h = rw (drop_of_length-le plan {i = i} h) refl
-
 pub further_turn : (plan : List ℕ) (i : ℕ) → i < length plan → further_text (drop i plan) ≡ comma ∷ (numeral (get_or plan i 0) ++ further_text (drop (i + 1) plan))
 unfolding further_text
 further_turn plan i h = rw (add-one i, drop-cons plan i 0 h) refl
 
-pub first_length : (plan : List ℕ) → 0 < length plan → length (plan_text plan) ≡ length (numeral (get_or plan 0 0)) + length (further_text (drop 1 plan))
-first_length plan h = ap length (plan_first plan h) ∙ length-append (numeral (get_or plan 0 0)) (further_text (drop 1 plan))
-
 pub further_length : (plan : List ℕ) (i : ℕ) → i < length plan → length (further_text (drop i plan)) ≡ 1 + length (numeral (get_or plan i 0)) + length (further_text (drop (i + 1) plan))
 further_length plan i h = ap length (further_turn plan i h) ∙ omega (arith, length-append (numeral (get_or plan i 0)) (further_text (drop (i + 1) plan)))
-
--- ---- answers
-
-pub minutes_bytes : {a : Answer} {m : Minutes} → a ≡ Cost m → answer_text (value_of a) ≡ numeral m.0
-unfolding answer_text
-minutes_bytes e = rw e refl
 
 -- ---- lines
 
@@ -132,7 +110,19 @@ pub refusal_length : (number place : ℕ) → length (refusal_text number place)
 unfolding refusal_text
 refusal_length number place = length-append (printed refused_key (numeral number)) (printed line_key (numeral place))
 
+-- there are 16 questions: a number beyond would be that of the first
+beyond : (n place : ℕ) → 16 < n → refusal_of n place ≡ TextTooLong
+unfolding refusal_of
+beyond n place h = let past : 16 ≤ n - 1 = omega arith in search (get_or_past, past)
+
+pub number_few : (q : Refusal) → number_of q ≤ 16
+number_few q = of (dec_at_most (number_of q) 16)
+  where
+    of : Dec (number_of q ≤ 16) → number_of q ≤ 16
+    of (yes h) = h
+    of (no n) = let first = beyond (number_of q) (place_of q) (omega (arith, n)) in omega (arith, n, ap number_of (sym (refusal_of_lem q) ∙ first))
+
 -- of 32-bit numbers: 15 bytes are the keys and newlines
 pub refusal_few : (number place : ℕ) → number ≤ max_number → place ≤ max_number → length (refusal_text number place) ≤ 15 + 2 * number_digits
 refusal_few number place h l =
-    omega (arith, refusal_length number place, printed_length refused_key (numeral number), printed_length line_key (numeral place), number_few number h, number_few place l)
+    omega (arith, refusal_length number place, printed_length refused_key (numeral number), printed_length line_key (numeral place), N.number_few number h, N.number_few place l)

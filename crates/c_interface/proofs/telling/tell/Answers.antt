@@ -1,8 +1,9 @@
 -- `c_interface::telling::tell` meets its contract.
-use mathlib.Core.Path.{sym}
-use native.Mathlib.Omega.{arith}
-use lib.Seq.{set_out}
+use Rattle.std.proofs.Common.{ap, ◌∙◌, List, ◌++◌, ℕ, drop}
+use Rattle.c_interface.specs.Laws.Told.{first_told}
 use Rattle.c_interface.proofs.telling.tell.Goals as goal
 
-pub returns-else-i-told : goal.returns-else-i-told
-returns-else-i-told c = sym (set_out c.args.told.now _ _ (omega arith))
+pub returns : goal.returns
+returns c =
+    let told = c.args.told.now in
+    ap (λ (l : List ℕ). l ++ drop c.min-count.result told) c.copy_from_slice.ensures.after ∙ first_told c.args.numbers.now told _ c.min-count.ensures

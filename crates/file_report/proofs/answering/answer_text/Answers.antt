@@ -1,23 +1,18 @@
 -- `file_report::answering::answer_text` meets its contract.
-use native.Mathlib.Omega.{arith}
-use borrow.Author.Rules.{rules}
-use Rattle.file_report.specs.Laws.Printed.{Refuses, written_put, refused_prints, refusal_fits, refusal_put}
+use Rattle.std.proofs.Common.{arith}
+use Rattle.file_report.specs.Laws.Printed.{written_put, refused_prints, refusal_fits, refusal_put}
 use Rattle.file_report.proofs.answering.answer_text.Goals as goal
 
-pub overflow_cast-place : goal.overflow_cast-place
-overflow_cast-place c =
-    let refuses : Refuses c.args.text.now c.args.output.now c.answer-reported.new.output c.in-Refused.refusal = refused_prints (search rules) c.in-Refused.is c.answer-reported.ensures in
-    omega (arith, c.place-place.ensures, refuses.few)
+pub print_refusal-requires-clause-place : goal.print_refusal-requires-clause-place
+print_refusal-requires-clause-place c = let refuses = refused_prints c.told-output c.in-Err.ensures in omega (arith, refuses.few)
 
-pub put_refusal-requires : goal.put_refusal-requires
-put_refusal-requires c =
-    let refuses : Refuses c.args.text.now c.args.output.now c.answer-reported.new.output c.in-Refused.refusal = refused_prints (search rules) c.in-Refused.is c.answer-reported.ensures in
-    refusal_fits (search rules) refuses (search rules) c.number.ensures c.place-place.ensures
+pub print_refusal-requires-clause-room : goal.print_refusal-requires-clause-room
+print_refusal-requires-clause-room c = refusal_fits c.told-output (refused_prints c.told-output c.in-Err.ensures)
 
-pub returns-in-Written : goal.returns-in-Written
-returns-in-Written c = written_put (search rules) c.in-Written.is c.answer-reported.ensures
+pub returns-in-Ok : goal.returns-in-Ok
+returns-in-Ok c = written_put _ c.told-output c.in-Ok.ensures
 
-pub returns-in-Refused : goal.returns-in-Refused
-returns-in-Refused c =
-    let refuses : Refuses c.args.text.now c.args.output.now c.answer-reported.new.output c.in-Refused.refusal = refused_prints (search rules) c.in-Refused.is c.answer-reported.ensures in
-    refusal_put (search rules) refuses (search rules) c.number.ensures c.place-place.ensures c.put_refusal.ensures
+pub returns-in-Err : goal.returns-in-Err
+returns-in-Err c =
+    let put = c.print_refusal.ensures in
+    refusal_put c.told-output (refused_prints c.told-output c.in-Err.ensures) put.bytes put.text

@@ -1,42 +1,29 @@
 -- `front::asked::ask_front` meets its contract.
-use mathlib.Core.Path.{sym, ap, ◌∙◌}
-use native.Mathlib.Omega.{arith}
-use Rattle.questions.specs.Record.{number_in, place_in}
+use Rattle.std.proofs.Common.{◌≡◌, sym, arith, rules, Err}
 use Rattle.questions.specs.Laws.Record.{fault_valid}
 use Rattle.planner.specs.Laws.Workspace.{spacious}
 use Rattle.front.specs.Laws.Asked.{sizes_refused, record_refused, lines_asked}
 use Rattle.front.proofs.asked.ask_front.Goals as goal
 
-pub returns-then-n-lt1 : goal.returns-then-n-lt1
-returns-then-n-lt1 c =
-    let size = c.places-n in
-    sizes_refused c.args.task c.args.states.now c.args.index.now c.args.links.now c.args.rows.now _ size.ensures _ _ c.if-n-lt1.true
+pub returns-in_err-n-clause-asked : goal.returns-in_err-n-clause-asked
+returns-in_err-n-clause-asked c =
+    let e : c.from_residual.result ≡ Err c.in_err-n.field-0.0 = search rules in
+    let said = c.in_err-n.ensures in
+    sizes_refused c.args.task _ 0 said.0 _ _ (omega arith) said.1 e
+
+pub returns-in_err-record_verdict-clause-asked : goal.returns-in_err-record_verdict-clause-asked
+returns-in_err-record_verdict-clause-asked c =
+    let e : c.from_residual-in_err-record_verdict.result ≡ Err c.in_err-record_verdict.field-0.0 = search rules in
+    let size = c.in_ok-n.ensures in
+    let fault = c.in_err-record_verdict.ensures in
+    record_refused c.args.task _ _ size.1 size.0 _ _ _ fault.0 fault.1 e
 
 pub list_lines-requires : goal.list_lines-requires
 list_lines-requires c =
-    let size = c.places-n in
-    let test = c.if-n-lt1 in
-    let verdict = c.record_verdict-verdict in
-    let told = c.in-Accepted in
-    let valid = fault_valid c.args.task (sym (sym (ap number_in told.is) ∙ verdict.ensures.0)) in
-    (valid, spacious c.args.states.now c.args.index.now c.args.links.now c.args.rows.now size.ensures (omega (arith, test.false)))
+    let size = c.in_ok-n.ensures in
+    (fault_valid c.args.task (sym c.in_ok-record_verdict.ensures.0), spacious c.args.work.now size.1 size.0)
 
-pub returns-in-Refused : goal.returns-in-Refused
-returns-in-Refused c =
-    let size = c.places-n in
-    let test = c.if-n-lt1 in
-    let verdict = c.record_verdict-verdict in
-    let told = c.in-Refused in
-    let number = sym (ap number_in told.is) ∙ verdict.ensures.0 in
-    let place = sym (ap place_in told.is) ∙ verdict.ensures.1 in
-    record_refused c.args.task c.args.states.now c.args.index.now c.args.links.now c.args.rows.now _ size.ensures (omega (arith, test.false)) _ _ told.refusal number place
-
-pub returns-in-Accepted : goal.returns-in-Accepted
-returns-in-Accepted c =
-    let size = c.places-n in
-    let test = c.if-n-lt1 in
-    let verdict = c.record_verdict-verdict in
-    let told = c.in-Accepted in
-    let call = c.list_lines in
-    let accepted = sym (sym (ap number_in told.is) ∙ verdict.ensures.0) in
-    lines_asked c.args.task c.args.states.now c.args.index.now c.args.links.now c.args.rows.now _ size.ensures (omega (arith, test.false)) _ _ accepted call.ensures
+pub returns-clause-asked : goal.returns-clause-asked
+returns-clause-asked c =
+    let size = c.in_ok-n.ensures in
+    lines_asked c.args.task _ _ size.1 size.0 _ _ (sym c.in_ok-record_verdict.ensures.0) c.list_lines.ensures.listed

@@ -2,9 +2,7 @@
 use Rattle.front.specs.Laws.Stages.{listed_left}
 use Rattle.front.proofs.lines.list_lines.Goals as goal
 
-pub returns : goal.returns
-returns c =
-    let search = c.search_lines-fronted in
-    let clear = c.clear_used in
-    let sizes = search.auto in
-    listed_left _ _ _ _ _ _ _ _ _ _ sizes.states sizes.index sizes.links sizes.rows clear.ensures _ _ _ search.ensures
+pub returns-clause-listed : goal.returns-clause-listed
+returns-clause-listed c =
+    let searched = c.search_lines-fronted.ensures in
+    listed_left _ _ _ _ searched.same c.clear_used.ensures.cleared _ _ _ searched.asked

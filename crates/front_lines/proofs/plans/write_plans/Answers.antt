@@ -3,16 +3,11 @@ use mathlib.Core.Path.{ap}
 use native.Mathlib.Omega.{arith}
 use lib.ListN.{length, length-drop}
 use Rattle.pareto.specs.Laws.Layout.{rest_of}
-use Rattle.front_lines.specs.Laws.Plans.{written_start, line_fits, written_more, written_end}
+use Rattle.front_lines.specs.Laws.Plans.{written_start, line_fits, written_more}
 use Rattle.front_lines.proofs.plans.write_plans.Goals as goal
 
 pub loop-k-init : goal.loop-k-init
 loop-k-init c = written_start c.args.rows.now c.args.count c.requires.0.inside c.args.plans.now
-
-pub slice_bounds-write_line-count : goal.slice_bounds-write_line-count
-slice_bounds-write_line-count c =
-    let fits = line_fits c.args.rows.now c.args.count c.requires.0.inside c.args.plans.now c.loop-k.invariant c.loop-k-test.true c.requires.1 in
-    omega (arith, fits)
 
 pub write_line-at-requires : goal.write_line-at-requires
 write_line-at-requires c =
@@ -30,8 +25,3 @@ loop-k-preserved c =
     let wrote = rw c.note-i.ensures at line.ensures in
     written_more c.args.rows.now c.args.count c.requires.0.inside c.args.plans.now c.loop-k.invariant
     _ line.result c.loop-k-test.true (omega (arith, fits)) wrote.0 (omega arith) wrote.1
-
-pub returns : goal.returns
-returns c =
-    written_end c.args.rows.now c.args.count c.requires.0.inside c.args.plans.now
-    c.loop-k.invariant (omega (arith, c.loop-k-test.false))

@@ -1,11 +1,8 @@
 -- `front_lines::selection::choose` meets its contract. The loop's invariant: the lines of the rows passed are noted.
 use native.Mathlib.Omega.{arith}
 use Rattle.front_lines.specs.Laws.Lines.{rows_inside}
-use Rattle.front_lines.specs.Laws.Pass.{pass_start, pass_reads, pass_visited, pass_end}
+use Rattle.front_lines.specs.Laws.Pass.{pass_reads, pass_visited, pass_end}
 use Rattle.front_lines.proofs.selection.choose.Goals as goal
-
-pub loop-p-init : goal.loop-p-init
-loop-p-init c = pass_start c.requires.1
 
 pub settled_row-i-requires : goal.settled_row-i-requires
 settled_row-i-requires c = omega (arith, c.loop-p-test.true, c.loop-p.invariant.same.size, rows_inside c.requires.1)

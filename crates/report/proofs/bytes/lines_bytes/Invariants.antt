@@ -1,10 +1,6 @@
 -- `report::bytes::lines_bytes` meets its contract.
-use Prim.Native.Nat.{◌-◌}
 use Rattle.report.specs.Laws.Bytes.{Counted}
 use Rattle.report.proofs.bytes.lines_bytes.Given as goal
 
 abbrev pub invariant-loop-k : goal.invariant-loop-k
 invariant-loop-k l = Counted l.rows l.count l.plan l.total l.k
-
-abbrev pub decreases-loop-k : goal.decreases-loop-k
-decreases-loop-k l = l.count - l.k

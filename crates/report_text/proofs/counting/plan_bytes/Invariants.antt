@@ -1,12 +1,10 @@
--- `report_text::counting::plan_bytes` meets its contract. The loop's invariant: the numbers from i on are still to be counted.
-use mathlib.Core.Path.{◌≡◌}
-use Prim.Native.Nat.{◌+◌, ◌-◌, ◌*◌, ◌≤◌}
-use lib.ListN.{length, drop}
-use Rattle.report_text.specs.Report.{plan_text, further_text}
+-- `report_text::counting::plan_bytes` meets its contract. The loop's invariant: the numbers from n on are still to be counted.
+use Rattle.std.proofs.Common.{◌≡◌, ◌+◌, ◌*◌, ◌≤◌, length, drop}
+use Rattle.report_text.specs.Report.{further_text, plan_text}
 use Rattle.report_text.proofs.counting.plan_bytes.Given as goal
 
-abbrev pub invariant-loop-i : goal.invariant-loop-i
-invariant-loop-i l = (l.i ≤ length l.plan) × (l.total + length (further_text (drop l.i l.plan)) ≡ length (plan_text l.plan)) × (l.total ≤ 4 * l.i)
-
-abbrev pub decreases-loop-i : goal.decreases-loop-i
-decreases-loop-i l = length l.plan - l.i
+abbrev pub invariant-loop-n : goal.invariant-loop-n
+invariant-loop-n l = record {
+  left : l.total + length (further_text (drop l.n-index l.rest)) ≡ length (plan_text l.plan);
+  few : l.total ≤ 4 * (l.n-index + 1);
+}

@@ -1,14 +1,12 @@
--- `report_text::putting::put_entry` meets its contract.
-use mathlib.Core.Path.{ap}
-use native.Mathlib.Omega.{arith}
-use lib.ListN.{length}
-use Rattle.pareto.specs.Front.{Line}
+-- `report_text::putting::put_entry` meets its contract: the four printed lines, one behind the other.
+use Rattle.text_output.specs.Laws.Puts.{puts_append}
 use Rattle.report_text.specs.Report.{line_text}
-use Rattle.report_text.specs.Laws.Entries.{line_parts}
+use Rattle.report_text.specs.Entries.{line_from}
 use Rattle.report_text.proofs.putting.put_entry.Goals as goal
 
-pub put_line-requires : goal.put_line-requires
-put_line-requires c = omega (arith, c.requires.1, ap (λ (l : Line). length (line_text l)) (line_parts c.args.entry c.args.plans.now c.args.from))
-
 pub returns : goal.returns
-returns c = rw (← line_parts c.args.entry c.args.plans.now c.args.from) c.put_line.ensures
+unfolding line_text line_from
+returns c =
+    let outages = rw c.split_at.ensures.front at c.put_line-3.ensures in
+    let moves = rw (c.split_at-2.ensures.front, c.split_at.ensures.back) at c.put_line-4.ensures in
+    puts_append c.put_line.ensures (puts_append c.put_line-2.ensures (puts_append outages moves))
