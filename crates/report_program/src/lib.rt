@@ -2,9 +2,8 @@
 // output. Where reading or writing fails, a line on standard error says so.
 #![tactic(auto)]
 
-mod reading;
-
 use file_report::{OUTPUT_BYTES, answer_text, blank_input};
+use input::read_full;
 use std::io;
 use std::process::ExitCode;
 
@@ -23,14 +22,13 @@ fn fail(rt: &impl Eprint, what: &str, error: io::Error) -> ExitCode {
 }
 
 // The program, and the status that it ends with.
-#[tactic(auto, unfolding(crate::specs::Input::taken))]
 pub fn run(rt: &(impl Input + Print + Eprint)) -> ExitCode {
     let mut bytes = blank_input();
-    match reading::read_input(&mut rt.reader(), &mut bytes) {
-        reading::Input::Text(n) => match print_answer(rt, &bytes[..n]) {
+    match read_full(&mut rt.reader(), &mut bytes) {
+        Ok(n) => match print_answer(rt, &bytes[..n]) {
             Ok(()) => ExitCode::SUCCESS,
             Err(error) => fail(rt, "standard output cannot be written", error),
         },
-        reading::Input::Unreadable(error) => fail(rt, "standard input cannot be read", error),
+        Err(error) => fail(rt, "standard input cannot be read", error),
     }
 }

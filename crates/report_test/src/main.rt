@@ -3,177 +3,123 @@
 // a call is compared with what they should. What it prints is compared with the file stdout.
 #![tactic(auto)]
 
-use outcome::Entry;
-use report::{Reported, report};
+ghost use Rattle.std.specs.Prelude.{◌≤◌};
+
+use outcome::Refusal;
+use questions::Workspace;
+use report::{Written, report};
 use rows::{BUCKET_WORDS, LINK_WORDS, WORDS};
 use std::io;
-use strips::Task;
+use strips::{Action, Task};
 use test_support::{
-    action, bare, count_buckets, count_links, count_rows, count_states, other_entry, print,
-    print_entry, print_field, print_numbers, print_refusal, worked,
+    action, bare, count, count_rows, other_entry, print_entries, print_plans, print_refusal, worked,
 };
 
-fn print_written(rt: &impl Print, entries: usize, bytes: usize) -> io::Result<()> {
-    print_field(rt, b" entries", entries as u64)?;
-    print_field(rt, b" bytes", bytes as u64)
-}
-
-fn print_reported(rt: &impl Print, reported: Reported) -> io::Result<()> {
+// A function prints, since `Display` and what is printed are of other crates.
+fn print_reported(rt: &impl Print, reported: Result<Written, Refusal>) -> io::Result<()> {
     match reported {
-        Reported::Written(entries, bytes) => print_written(rt, entries, bytes),
-        Reported::Refused(refusal) => print_refusal(rt, refusal),
+        Ok(written) => print!(rt; " entries={} bytes={}", written.entries, written.bytes),
+        Err(refusal) => print_refusal(rt, refusal),
     }?;
-    print(rt, b"\n")
-}
-
-fn print_three(rt: &impl Print, reported: Reported, entries: [Entry; 3]) -> io::Result<()> {
-    print_reported(rt, reported)?;
-    print_entry(rt, entries[0])?;
-    print_entry(rt, entries[1])?;
-    print_entry(rt, entries[2])
-}
-
-fn print_plans(rt: &impl Print, plans: &[u8]) -> io::Result<()> {
-    print(rt, b"  plans")?;
-    print_numbers(rt, plans)?;
-    print(rt, b"\n")
-}
-
-// Prints the outcome of the call with room for three entries, and the entries.
-fn report_in<'w, 'b>(
-    rt: &impl Print,
-    task: Task,
-    states: &'w mut [u64],
-    index: &'w mut [[u16; BUCKET_WORDS]],
-    links: &'w mut [[u16; LINK_WORDS]],
-    rows: &'b mut [[u64; WORDS]],
-    plans: &'w mut [u8],
-    text: &'w mut [u8],
-) -> io::Result<()> {
-    let other = other_entry();
-    let mut entries = [other; 3];
-    let reported = report(task, states, index, links, rows, &mut entries, plans, text);
-    print_three(rt, reported, entries)
+    println!(rt)
 }
 
 // Prints how many places of a slice hold what they should, where these are not all.
-fn compare(rt: &impl Print, name: &[u8], same: usize, places: usize) -> io::Result<()> {
+fn compare(rt: &impl Print, name: &str, same: usize, places: usize) -> io::Result<()> {
     if same != places {
-        print_field(rt, name, same as u64)?;
-        print(rt, b"\n")?;
+        println!(rt; "  {name}={same}")?;
     }
     Ok(())
 }
 
 // Every working place should hold the number.
-fn compare_places(
-    rt: &impl Print,
-    number: u64,
-    states: &[u64],
-    index: &[[u16; BUCKET_WORDS]],
-    links: &[[u16; LINK_WORDS]],
-    rows: &[[u64; WORDS]],
-) -> io::Result<()> {
-    compare(rt, b"  states", count_states(states, number), states.len())?;
-    compare(rt, b"  index", count_buckets(index, number), index.len())?;
-    compare(rt, b"  links", count_links(links, number), links.len())?;
-    compare(rt, b"  rows", count_rows(rows, number), rows.len())
+fn compare_places(rt: &impl Print, number: u16, work: &Workspace<'_>) -> io::Result<()> {
+    let wide = u64::from(number);
+    compare(rt, "states", count(work.states, wide), work.states.len())?;
+    compare(
+        rt,
+        "index",
+        count_rows(work.index, number),
+        work.index.len(),
+    )?;
+    compare(
+        rt,
+        "links",
+        count_rows(work.links, number),
+        work.links.len(),
+    )?;
+    compare(rt, "rows", count_rows(work.rows, wide), work.rows.len())
 }
 
-// One call, and what it leaves in plan slice and text. The working places hold 5 before, and the number `left` after the call.
-fn lend(
+// One call with room for three entries and so many plan numbers and bytes, and what it leaves in them. The working places hold 5 before, and the number `left`
+// after the call. The report of document 01's hall has 5 plan numbers and 118 bytes.
+fn lend<const NUMBERS: usize, const BYTES: usize>(
     rt: &impl Print,
-    label: &[u8],
+    label: &str,
     task: Task,
-    left: u64,
-    plans: &mut [u8],
-    text: &mut [u8],
-) -> io::Result<()> {
+    left: u16,
+) -> io::Result<()>
+    requires { (NUMBERS ≤ 8) × (BYTES ≤ 160) }
+{
     let mut states = [5u64; 22];
     let mut index = [[5u16; BUCKET_WORDS]; 23];
     let mut links = [[5u16; LINK_WORDS]; 24];
     let mut rows = [[5u64; WORDS]; 25];
-    print(rt, label)?;
-    print(rt, b":")?;
-    report_in(
-        rt,
-        task,
-        &mut states,
-        &mut index,
-        &mut links,
-        &mut rows,
-        plans,
-        text,
-    )?;
-    compare_places(rt, left, &states, &index, &links, &rows)?;
-    print_plans(rt, plans)?;
-    print(rt, text)?;
-    print(rt, b"\n")
+    let mut plans = [99u8; NUMBERS];
+    let mut text = [b'.'; BYTES];
+    let mut entries = [other_entry(); 3];
+    let mut work = Workspace {
+        states: &mut states,
+        index: &mut index,
+        links: &mut links,
+        rows: &mut rows,
+    };
+    print!(rt; "{label}:")?;
+    let reported = report(task, &mut work, &mut entries, &mut plans, &mut text);
+    print_reported(rt, reported)?;
+    print_entries(rt, &entries)?;
+    compare_places(rt, left, &work)?;
+    print_plans(rt, &plans)?;
+    rt.write_all(&text)?;
+    println!(rt)
 }
 
-// As many plan numbers and bytes as the report of document 01's hall has.
-fn just_enough(rt: &impl Print, label: &[u8], task: Task) -> io::Result<()> {
-    let mut plans = [99u8; 5];
-    let mut text = [b'.'; 118];
-    lend(rt, label, task, 0, &mut plans, &mut text)
-}
-
-fn short_plans(rt: &impl Print, label: &[u8], task: Task) -> io::Result<()> {
-    let mut plans = [99u8; 4];
-    let mut text = [b'.'; 118];
-    lend(rt, label, task, 0, &mut plans, &mut text)
-}
-
-fn short_text(rt: &impl Print, label: &[u8], task: Task) -> io::Result<()> {
-    let mut plans = [99u8; 5];
-    let mut text = [b'.'; 117];
-    lend(rt, label, task, 0, &mut plans, &mut text)
-}
-
-fn short_both(rt: &impl Print, label: &[u8], task: Task, left: u64) -> io::Result<()> {
-    let mut plans = [99u8; 4];
-    let mut text = [b'.'; 117];
-    lend(rt, label, task, left, &mut plans, &mut text)
-}
-
-fn roomy(rt: &impl Print, label: &[u8], task: Task) -> io::Result<()> {
-    let mut plans = [99u8; 8];
-    let mut text = [b'.'; 160];
-    lend(rt, label, task, 0, &mut plans, &mut text)
+// More of both than most of the reports have.
+fn roomy(rt: &impl Print, label: &str, task: Task) -> io::Result<()> {
+    lend::<8, 160>(rt, label, task, 0)
 }
 
 fn floor(rt: &impl Print) -> io::Result<()> {
     let task = worked();
-    just_enough(rt, b"the hall", task)?;
-    short_plans(rt, b"4 plan numbers", task)?;
-    short_text(rt, b"117 bytes", task)?;
-    short_both(rt, b"4 plan numbers, 117 bytes", task, 0)?;
-    roomy(rt, b"more of both", task)
+    lend::<5, 118>(rt, "the hall", task, 0)?;
+    lend::<4, 118>(rt, "4 plan numbers", task, 0)?;
+    lend::<5, 117>(rt, "117 bytes", task, 0)?;
+    lend::<4, 117>(rt, "4 plan numbers, 117 bytes", task, 0)?;
+    roomy(rt, "more of both", task)
 }
 
 // Fewer lines than there are entries.
 fn fewer_lines(rt: &impl Print) -> io::Result<()> {
-    let idle = action(0, 0, 0, 0);
     let mut free = worked();
     free.leader[0] = action(0, 4, 4, 0);
-    roomy(rt, b"first outage at price 0", free)?;
+    roomy(rt, "first outage at price 0", free)?;
     let mut calm = worked();
     calm.leader_count = 0;
-    calm.leader = [idle; 16];
-    roomy(rt, b"no outages", calm)?;
+    calm.leader = [Action::default(); 16];
+    roomy(rt, "no outages", calm)?;
     let mut reached = worked();
     reached.goal = 0;
-    roomy(rt, b"empty goal", reached)?;
+    roomy(rt, "empty goal", reached)?;
     let mut stuck = worked();
     stuck.follower_count = 0;
-    stuck.follower = [idle; 32];
-    roomy(rt, b"no moves", stuck)
+    stuck.follower = [Action::default(); 32];
+    roomy(rt, "no moves", stuck)
 }
 
 fn no_facts(rt: &impl Print) -> io::Result<()> {
     let mut broken = worked();
     broken.facts = 0;
-    short_both(rt, b"no facts, 4 plan numbers, 117 bytes", broken, 5)
+    lend::<4, 117>(rt, "no facts, 4 plan numbers, 117 bytes", broken, 5)
 }
 
 // Three belts, a repair of all of them that costs nothing, and outages that end in the same state or in the same pair.
@@ -191,11 +137,11 @@ fn repairs(rt: &impl Print) -> io::Result<()> {
     task.follower[0] = action(1, 5, 1, 2);
     task.follower[1] = action(4, 9, 1, 2);
     task.follower[2] = action(4, 17, 1, 2);
-    roomy(rt, b"repairs, fewer outages", task)?;
+    roomy(rt, "repairs, fewer outages", task)?;
     task.leader[2] = action(6, 12, 12, 0);
-    roomy(rt, b"repairs, smaller first outage", task)?;
+    roomy(rt, "repairs, smaller first outage", task)?;
     task.follower[2] = action(9, 17, 1, 2);
-    roomy(rt, b"4 lines", task)
+    roomy(rt, "4 lines", task)
 }
 
 // A cheaper way to a state that was met before.
@@ -208,7 +154,7 @@ fn met_before(rt: &impl Print) -> io::Result<()> {
     task.follower_count = 2;
     task.follower[0] = action(1, 5, 1, 2);
     task.follower[1] = action(4, 9, 1, 2);
-    just_enough(rt, b"met before", task)
+    lend::<5, 118>(rt, "met before", task, 0)
 }
 
 fn main(rt: HostRuntime) -> io::Result<()> {

@@ -2,13 +2,16 @@
 // numbers before. What it prints is compared with the file stdout.
 #![tactic(auto)]
 
+ghost use Rattle.std.specs.Prelude.{◌≤◌};
+
+use outcome::Refusal;
 use planner::{Answered, best_response};
+use questions::Workspace;
 use rows::{BUCKET_WORDS, LINK_WORDS, WORDS};
 use std::io;
 use strips::Task;
 use test_support::{
-    action, bare, count_buckets, count_links, count_rows, count_states, print, print_answer,
-    print_field, print_numbers, print_refusal, worked,
+    action, bare, count, count_rows, print_answer, print_numbers, print_refusal, worked,
 };
 
 // What the working slices hold before a call.
@@ -20,142 +23,95 @@ const LINK: u16 = 7;
 
 const ROW: u64 = 6;
 
-fn print_answered(rt: &impl Print, answered: Answered) -> io::Result<()> {
+// A function prints, since `Display` and what is printed are of other crates.
+fn print_answered(rt: &impl Print, answered: Result<Answered, Refusal>) -> io::Result<()> {
     match answered {
-        Answered::Found(answer, steps) => {
-            print_answer(rt, answer)?;
-            print_field(rt, b" steps", steps as u64)
+        Ok(found) => {
+            print_answer(rt, found.answer)?;
+            print!(rt; " steps={}", found.steps)
         }
-        Answered::Refused(refusal) => print_refusal(rt, refusal),
+        Err(refusal) => print_refusal(rt, refusal),
     }
 }
 
 // How many places of each working slice are zero, and how many hold what they held before.
-fn print_left(
-    rt: &impl Print,
-    states: &[u64],
-    index: &[[u16; BUCKET_WORDS]],
-    links: &[[u16; LINK_WORDS]],
-    rows: &[[u64; WORDS]],
-) -> io::Result<()> {
-    print(rt, b" zeros")?;
-    print_field(rt, b" states", count_states(states, 0) as u64)?;
-    print_field(rt, b" index", count_buckets(index, 0) as u64)?;
-    print_field(rt, b" links", count_links(links, 0) as u64)?;
-    print_field(rt, b" rows", count_rows(rows, 0) as u64)?;
-    print(rt, b" untouched")?;
-    print_field(rt, b" states", count_states(states, STATE) as u64)?;
-    print_field(rt, b" index", count_buckets(index, BUCKET as u64) as u64)?;
-    print_field(rt, b" links", count_links(links, LINK as u64) as u64)?;
-    print_field(rt, b" rows", count_rows(rows, ROW) as u64)?;
-    print(rt, b"\n")
+fn print_left(rt: &impl Print, work: &Workspace<'_>) -> io::Result<()> {
+    print!(rt;
+        " zeros states={} index={} links={} rows={}",
+        count(work.states, 0),
+        count_rows(work.index, 0),
+        count_rows(work.links, 0),
+        count_rows(work.rows, 0)
+    )?;
+    println!(rt;
+        " untouched states={} index={} links={} rows={}",
+        count(work.states, STATE),
+        count_rows(work.index, BUCKET),
+        count_rows(work.links, LINK),
+        count_rows(work.rows, ROW)
+    )
 }
 
 fn respond(
     rt: &impl Print,
-    label: &[u8],
+    label: &str,
     task: Task,
     leader_plan: &[u8],
-    states: &mut [u64],
-    index: &mut [[u16; BUCKET_WORDS]],
-    links: &mut [[u16; LINK_WORDS]],
-    rows: &mut [[u64; WORDS]],
+    work: &mut Workspace<'_>,
     plan: &mut [u8],
 ) -> io::Result<()> {
-    print(rt, label)?;
-    print(rt, b":")?;
-    let answered = best_response(task, leader_plan, states, index, links, rows, plan);
+    print!(rt; "{label}:")?;
+    let answered = best_response(task, leader_plan, work, plan);
     print_answered(rt, answered)?;
-    print(rt, b" plan")?;
+    print!(rt; " plan")?;
     print_numbers(rt, plan)?;
-    print_left(rt, states, index, links, rows)
+    print_left(rt, work)
 }
 
-// Slices of 7 places and more, which is document 01's reach, but for two that the caller lends, and 3 places for the plan.
-fn lend(
+// Slices of 7 places and more, which is document 01's reach, but for two whose places are named, and 3 places for the plan.
+fn tight<const STATES: usize, const ROWS: usize>(
     rt: &impl Print,
-    label: &[u8],
+    label: &str,
     task: Task,
     leader_plan: &[u8],
-    states: &mut [u64],
-    rows: &mut [[u64; WORDS]],
-) -> io::Result<()> {
+) -> io::Result<()>
+    requires { (STATES ≤ 7) × (ROWS ≤ 7) }
+{
+    let mut states = [STATE; STATES];
     let mut index = [[BUCKET; BUCKET_WORDS]; 8];
     let mut links = [[LINK; LINK_WORDS]; 9];
+    let mut rows = [[ROW; WORDS]; ROWS];
     let mut plan = [99u8; 3];
-    respond(
-        rt,
-        label,
-        task,
-        leader_plan,
-        states,
-        &mut index,
-        &mut links,
-        rows,
-        &mut plan,
-    )
+    let mut work = Workspace {
+        states: &mut states,
+        index: &mut index,
+        links: &mut links,
+        rows: &mut rows,
+    };
+    respond(rt, label, task, leader_plan, &mut work, &mut plan)
 }
 
-fn tight(rt: &impl Print, label: &[u8], task: Task, leader_plan: &[u8]) -> io::Result<()> {
-    let mut states = [STATE; 7];
-    let mut rows = [[ROW; WORDS]; 7];
-    lend(rt, label, task, leader_plan, &mut states, &mut rows)
-}
-
-// One of the slices has 6 places.
-fn few_states(rt: &impl Print, label: &[u8], task: Task, leader_plan: &[u8]) -> io::Result<()> {
-    let mut states = [STATE; 6];
-    let mut rows = [[ROW; WORDS]; 7];
-    lend(rt, label, task, leader_plan, &mut states, &mut rows)
-}
-
-fn few_rows(rt: &impl Print, label: &[u8], task: Task, leader_plan: &[u8]) -> io::Result<()> {
-    let mut states = [STATE; 7];
-    let mut rows = [[ROW; WORDS]; 6];
-    lend(rt, label, task, leader_plan, &mut states, &mut rows)
-}
-
-// One of the slices has no place.
-fn no_rows(rt: &impl Print, label: &[u8], task: Task, leader_plan: &[u8]) -> io::Result<()> {
-    let mut states = [STATE; 7];
-    let mut rows = [[ROW; WORDS]; 0];
-    lend(rt, label, task, leader_plan, &mut states, &mut rows)
-}
-
-// More places than most of the tasks need.
-fn lend_more(
+// More places than most of the tasks need, and so many places for the plan.
+fn roomy<const STEPS: usize>(
     rt: &impl Print,
-    label: &[u8],
+    label: &str,
     task: Task,
     leader_plan: &[u8],
-    plan: &mut [u8],
-) -> io::Result<()> {
+) -> io::Result<()>
+    requires { STEPS ≤ 3 }
+{
     let mut states = [STATE; 64];
     let mut index = [[BUCKET; BUCKET_WORDS]; 67];
     let mut links = [[LINK; LINK_WORDS]; 66];
     let mut rows = [[ROW; WORDS]; 65];
-    respond(
-        rt,
-        label,
-        task,
-        leader_plan,
-        &mut states,
-        &mut index,
-        &mut links,
-        &mut rows,
-        plan,
-    )
-}
-
-fn roomy(rt: &impl Print, label: &[u8], task: Task, leader_plan: &[u8]) -> io::Result<()> {
-    let mut plan = [99u8; 3];
-    lend_more(rt, label, task, leader_plan, &mut plan)
-}
-
-// The same with one place less for the plan.
-fn short_plan(rt: &impl Print, label: &[u8], task: Task, leader_plan: &[u8]) -> io::Result<()> {
-    let mut plan = [99u8; 2];
-    lend_more(rt, label, task, leader_plan, &mut plan)
+    let mut plan = [99u8; STEPS];
+    let mut work = Workspace {
+        states: &mut states,
+        index: &mut index,
+        links: &mut links,
+        rows: &mut rows,
+    };
+    respond(rt, label, task, leader_plan, &mut work, &mut plan)
 }
 
 // A task without actions: fact 1 is there at first, fact 6 is the goal.
@@ -165,28 +121,28 @@ fn open_task() -> Task {
 
 fn floor(rt: &impl Print) -> io::Result<()> {
     let task = worked();
-    tight(rt, b"no outage", task, &[])?;
-    tight(rt, b"outage 1", task, &[1])?;
-    tight(rt, b"outage 2", task, &[2])?;
-    tight(rt, b"outages 1 2", task, &[1, 2])?;
-    few_states(rt, b"6 places for states", task, &[])?;
-    few_rows(rt, b"6 rows", task, &[])?;
-    roomy(rt, b"no outage, more places", task, &[])?;
-    roomy(rt, b"no moves", open_task(), &[])?;
+    tight::<7, 7>(rt, "no outage", task, &[])?;
+    tight::<7, 7>(rt, "outage 1", task, &[1])?;
+    tight::<7, 7>(rt, "outage 2", task, &[2])?;
+    tight::<7, 7>(rt, "outages 1 2", task, &[1, 2])?;
+    tight::<6, 7>(rt, "6 places for states", task, &[])?;
+    tight::<7, 6>(rt, "6 rows", task, &[])?;
+    roomy::<3>(rt, "no outage, more places", task, &[])?;
+    roomy::<3>(rt, "no moves", open_task(), &[])?;
     let mut free = worked();
     free.goal = 0;
-    roomy(rt, b"empty goal", free, &[1])
+    roomy::<3>(rt, "empty goal", free, &[1])
 }
 
 fn refusals(rt: &impl Print) -> io::Result<()> {
     let task = worked();
-    no_rows(rt, b"no rows", task, &[9])?;
+    tight::<7, 0>(rt, "no rows", task, &[9])?;
     let mut broken = worked();
     broken.facts = 0;
-    tight(rt, b"no facts", broken, &[9])?;
-    tight(rt, b"outage 3", task, &[1, 3])?;
-    tight(rt, b"outages 1 1", task, &[1, 1])?;
-    few_rows(rt, b"outages 2 2, 6 rows", task, &[2, 2])
+    tight::<7, 7>(rt, "no facts", broken, &[9])?;
+    tight::<7, 7>(rt, "outage 3", task, &[1, 3])?;
+    tight::<7, 7>(rt, "outages 1 1", task, &[1, 1])?;
+    tight::<7, 6>(rt, "outages 2 2, 6 rows", task, &[2, 2])
 }
 
 // The direct way costs 100; the way over facts 2 and 3 costs 90.
@@ -197,16 +153,16 @@ fn detour(rt: &impl Print) -> io::Result<()> {
     task.follower[1] = action(30, 1, 1, 2);
     task.follower[2] = action(30, 2, 2, 4);
     task.follower[3] = action(30, 4, 4, 32);
-    roomy(rt, b"cheaper detour", task, &[])?;
-    short_plan(rt, b"cheaper detour, 2 places", task, &[])?;
+    roomy::<3>(rt, "cheaper detour", task, &[])?;
+    roomy::<2>(rt, "cheaper detour, 2 places", task, &[])?;
     task.follower[3] = action(40, 4, 4, 32);
-    roomy(rt, b"as dear a detour", task, &[])?;
+    roomy::<3>(rt, "as dear a detour", task, &[])?;
     task.follower[3] = action(41, 4, 4, 32);
-    roomy(rt, b"dearer detour", task, &[])?;
+    roomy::<3>(rt, "dearer detour", task, &[])?;
     task.follower[0] = action(100, 16, 0, 32);
-    roomy(rt, b"only the detour", task, &[])?;
+    roomy::<3>(rt, "only the detour", task, &[])?;
     task.follower[3] = action(41, 20, 4, 32);
-    roomy(rt, b"no way", task, &[])
+    roomy::<3>(rt, "no way", task, &[])
 }
 
 // A cheaper way to a state that was met before.
@@ -217,7 +173,7 @@ fn met_before(rt: &impl Print) -> io::Result<()> {
     task.follower[1] = action(2, 1, 1, 4);
     task.follower[2] = action(3, 4, 4, 2);
     task.follower[3] = action(1, 2, 2, 32);
-    roomy(rt, b"met before", task, &[])
+    roomy::<3>(rt, "met before", task, &[])
 }
 
 // Actions that cost nothing and lead round in circles.
@@ -229,9 +185,9 @@ fn loops(rt: &impl Print) -> io::Result<()> {
     task.follower[2] = action(0, 2, 2, 4);
     task.follower[3] = action(0, 4, 4, 1);
     task.follower[4] = action(0, 4, 0, 32);
-    roomy(rt, b"free loops", task, &[])?;
+    roomy::<3>(rt, "free loops", task, &[])?;
     task.follower[4] = action(0, 0, 0, 0);
-    roomy(rt, b"free loops, no way", task, &[])
+    roomy::<3>(rt, "free loops, no way", task, &[])
 }
 
 // Ways of one cost; of one cost and as many steps.
@@ -243,16 +199,16 @@ fn ties(rt: &impl Print) -> io::Result<()> {
     task.follower[2] = action(10, 1, 1, 32);
     task.follower[3] = action(5, 1, 1, 4);
     task.follower[4] = action(5, 4, 4, 32);
-    roomy(rt, b"fewer steps", task, &[])?;
+    roomy::<3>(rt, "fewer steps", task, &[])?;
     task.follower[2] = action(11, 1, 1, 32);
-    roomy(rt, b"smaller first step", task, &[])?;
+    roomy::<3>(rt, "smaller first step", task, &[])?;
     task.follower[0] = action(5, 1, 1, 4);
     task.follower[1] = action(5, 4, 4, 48);
     task.follower[3] = action(5, 1, 1, 2);
     task.follower[4] = action(5, 2, 2, 32);
-    roomy(rt, b"smaller first step, other end state", task, &[])?;
+    roomy::<3>(rt, "smaller first step, other end state", task, &[])?;
     task.follower[4] = action(5, 4, 4, 32);
-    roomy(rt, b"smaller last step", task, &[])
+    roomy::<3>(rt, "smaller last step", task, &[])
 }
 
 // A counter of 8 bits that goes down: facts 9 to 16 are its bits, facts 1 to 8 say that a bit is not set. Its one plan has 255 steps.
@@ -273,10 +229,10 @@ fn counter() -> Task {
     task
 }
 
-// As many places as the counter has states, but for a slice and a plan that the caller lends.
+// As many places as the counter has states, but for links and a plan that the caller lends.
 fn count_down(
     rt: &impl Print,
-    label: &[u8],
+    label: &str,
     task: Task,
     links: &mut [[u16; LINK_WORDS]],
     plan: &mut [u8],
@@ -284,22 +240,28 @@ fn count_down(
     let mut states = [STATE; 256];
     let mut index = [[BUCKET; BUCKET_WORDS]; 256];
     let mut rows = [[ROW; WORDS]; 256];
-    let answered = best_response(task, &[], &mut states, &mut index, links, &mut rows, plan);
-    print(rt, label)?;
-    print(rt, b":")?;
+    let mut work = Workspace {
+        states: &mut states,
+        index: &mut index,
+        links,
+        rows: &mut rows,
+    };
+    let answered = best_response(task, &[], &mut work, plan);
+    print!(rt; "{label}:")?;
     print_answered(rt, answered)?;
-    print_left(rt, &states, &index, links, &rows)
+    print_left(rt, &work)
 }
 
+// The second call is lent the plan slice as the first has left it, and the third the links.
 fn long_way(rt: &impl Print) -> io::Result<()> {
     let task = counter();
     let mut links = [[LINK; LINK_WORDS]; 256];
     let mut plan = [99u8; 255];
-    count_down(rt, b"255 steps", task, &mut links, &mut plan)?;
+    count_down(rt, "255 steps", task, &mut links, &mut plan)?;
     let mut fewer = [[LINK; LINK_WORDS]; 255];
-    count_down(rt, b"255 steps, 255 places", task, &mut fewer, &mut plan)?;
+    count_down(rt, "255 steps, 255 places", task, &mut fewer, &mut plan)?;
     let mut short = [99u8; 254];
-    count_down(rt, b"255 steps, plan of 254", task, &mut links, &mut short)
+    count_down(rt, "255 steps, plan of 254", task, &mut links, &mut short)
 }
 
 fn main(rt: HostRuntime) -> io::Result<()> {

@@ -2,69 +2,57 @@
 // What it prints is compared with the file stdout.
 #![tactic(auto)]
 
-use replay::{Ended, Replayed};
+use replay::Ended;
 use std::io;
 use strips::Task;
-use test_support::{action, print, print_field, print_numbers, print_refusal, worked};
+use test_support::{action, print_numbers, print_refusal, worked};
 
+// A function prints, since `Display` and what is printed are of other crates.
 fn print_ended(rt: &impl Print, end: Ended) -> io::Result<()> {
-    print_field(rt, b" price", end.price.0 as u64)?;
-    print_field(rt, b" minutes", end.minutes.0 as u64)?;
-    print_field(rt, b" state", end.state)?;
-    print_field(rt, b" goal", end.goal as u64)
+    let goal = u8::from(end.goal);
+    print!(rt;
+        " price={} minutes={} state={} goal={goal}",
+        end.price.0, end.minutes.0, end.state
+    )
 }
 
 fn replay(
     rt: &impl Print,
-    label: &[u8],
+    label: &str,
     task: Task,
     leader_plan: &[u8],
     follower_plan: &[u8],
 ) -> io::Result<()> {
-    print(rt, label)?;
-    print(rt, b":")?;
+    print!(rt; "{label}:")?;
     match replay::replay(task, leader_plan, follower_plan) {
-        Replayed::Ran(end) => print_ended(rt, end),
-        Replayed::Refused(refusal) => print_refusal(rt, refusal),
+        Ok(end) => print_ended(rt, end),
+        Err(refusal) => print_refusal(rt, refusal),
     }?;
-    print(rt, b"\n")
-}
-
-fn outages(rt: &impl Print, label: &[u8], task: Task, plan: &[u8]) -> io::Result<()> {
-    replay(rt, label, task, plan, &[])
-}
-
-fn moves(rt: &impl Print, label: &[u8], task: Task, plan: &[u8]) -> io::Result<()> {
-    replay(rt, label, task, &[], plan)
-}
-
-// No plan at all: what is asked of the record.
-fn judge(rt: &impl Print, label: &[u8], task: Task) -> io::Result<()> {
-    replay(rt, label, task, &[], &[])
+    println!(rt)
 }
 
 fn plans(rt: &impl Print) -> io::Result<()> {
     let task = worked();
-    judge(rt, b"nothing", task)?;
-    moves(rt, b"move 1", task, &[1])?;
-    replay(rt, b"outage 1, move 2", task, &[1], &[2])?;
-    outages(rt, b"outages 1 2", task, &[1, 2])?;
-    outages(rt, b"outages 2 1", task, &[2, 1])?;
-    moves(rt, b"moves 1 1", task, &[1, 1])?;
-    outages(rt, b"outages 1 1", task, &[1, 1])?;
-    replay(rt, b"outage 1, move 1", task, &[1], &[1])?;
-    replay(rt, b"outages 1 2, moves 2", task, &[1, 2], &[2])
+    replay(rt, "nothing", task, &[], &[])?;
+    replay(rt, "move 1", task, &[], &[1])?;
+    replay(rt, "outage 1, move 2", task, &[1], &[2])?;
+    replay(rt, "outages 1 2", task, &[1, 2], &[])?;
+    replay(rt, "outages 2 1", task, &[2, 1], &[])?;
+    replay(rt, "moves 1 1", task, &[], &[1, 1])?;
+    replay(rt, "outages 1 1", task, &[1, 1], &[])?;
+    replay(rt, "outage 1, move 1", task, &[1], &[1])?;
+    replay(rt, "outages 1 2, moves 2", task, &[1, 2], &[2])
 }
 
 fn numbers(rt: &impl Print) -> io::Result<()> {
     let task = worked();
-    outages(rt, b"outage 0", task, &[0])?;
-    outages(rt, b"outage 3", task, &[1, 3])?;
-    replay(rt, b"move 0", task, &[1], &[2, 0])?;
-    replay(rt, b"move 33", task, &[1, 2], &[33])?;
-    moves(rt, b"move 255", task, &[255])?;
-    moves(rt, b"moves 1 1 9", task, &[1, 1, 9])?;
-    replay(rt, b"outages 1 1, move 9", task, &[1, 1], &[9])
+    replay(rt, "outage 0", task, &[0], &[])?;
+    replay(rt, "outage 3", task, &[1, 3], &[])?;
+    replay(rt, "move 0", task, &[1], &[2, 0])?;
+    replay(rt, "move 33", task, &[1, 2], &[33])?;
+    replay(rt, "move 255", task, &[], &[255])?;
+    replay(rt, "moves 1 1 9", task, &[], &[1, 1, 9])?;
+    replay(rt, "outages 1 1, move 9", task, &[1, 1], &[9])
 }
 
 // A task whose one move changes nothing, so that plans of any length run.
@@ -79,88 +67,87 @@ fn lengths(rt: &impl Print) -> io::Result<()> {
     let task = patient();
     let longest = [1u8; 32767];
     let too_long = [1u8; 32768];
-    outages(rt, b"longest outages", task, &longest)?;
-    moves(rt, b"longest moves", task, &longest)?;
-    outages(rt, b"outages too long", task, &too_long)?;
-    moves(rt, b"moves too long", task, &too_long)?;
-    replay(rt, b"too long, and no action", task, &too_long, &[9])
+    replay(rt, "longest outages", task, &longest, &[])?;
+    replay(rt, "longest moves", task, &[], &longest)?;
+    replay(rt, "outages too long", task, &too_long, &[])?;
+    replay(rt, "moves too long", task, &[], &too_long)?;
+    replay(rt, "too long, and no action", task, &too_long, &[9])
 }
 
 // A fact that an action deletes and adds is there afterwards.
 fn overlap(rt: &impl Print) -> io::Result<()> {
     let mut task = worked();
     task.follower[0] = action(1, 0, 3, 2);
-    moves(rt, b"delete and add of one fact", task, &[1])?;
+    replay(rt, "delete and add of one fact", task, &[], &[1])?;
     task.facts = 64;
     task.goal = 9_223_372_036_854_775_808;
     task.follower[1] = action(10_000, 0, 13, 9_223_372_036_854_775_808);
-    moves(rt, b"fact 64", task, &[2])
+    replay(rt, "fact 64", task, &[], &[2])
 }
 
 fn invalid_sizes(rt: &impl Print) -> io::Result<()> {
     let mut task = worked();
     task.facts = 0;
-    judge(rt, b"no facts", task)?;
+    replay(rt, "no facts", task, &[], &[])?;
     task.facts = 65;
-    judge(rt, b"65 facts", task)?;
+    replay(rt, "65 facts", task, &[], &[])?;
     task = worked();
     task.leader_count = 17;
-    judge(rt, b"17 outages", task)?;
+    replay(rt, "17 outages", task, &[], &[])?;
     task = worked();
     task.follower_count = 33;
-    judge(rt, b"33 moves", task)
+    replay(rt, "33 moves", task, &[], &[])
 }
 
 fn invalid_sets(rt: &impl Print) -> io::Result<()> {
     let mut task = worked();
     task.initial = 16;
-    judge(rt, b"start fact 5 of 4", task)?;
+    replay(rt, "start fact 5 of 4", task, &[], &[])?;
     task = worked();
     task.goal = 16;
-    judge(rt, b"goal fact 5 of 4", task)?;
+    replay(rt, "goal fact 5 of 4", task, &[], &[])?;
     task = worked();
     task.leader[1] = action(5, 16, 0, 0);
-    judge(rt, b"needs fact 5 of 4", task)?;
+    replay(rt, "needs fact 5 of 4", task, &[], &[])?;
     task.leader[1] = action(5, 0, 16, 0);
-    judge(rt, b"drops fact 5 of 4", task)?;
+    replay(rt, "drops fact 5 of 4", task, &[], &[])?;
     task.leader[1] = action(5, 0, 0, 16);
-    judge(rt, b"gives fact 5 of 4", task)?;
+    replay(rt, "gives fact 5 of 4", task, &[], &[])?;
     task = worked();
     task.follower[1] = action(7, 0, 0, 16);
-    judge(rt, b"move gives fact 5 of 4", task)
+    replay(rt, "move gives fact 5 of 4", task, &[], &[])
 }
 
 fn invalid_places(rt: &impl Print) -> io::Result<()> {
     let mut task = worked();
     task.leader[0] = action(10_001, 4, 4, 0);
-    judge(rt, b"price 10001", task)?;
+    replay(rt, "price 10001", task, &[], &[])?;
     task = worked();
     task.follower[0] = action(10_001, 5, 1, 2);
-    judge(rt, b"minutes 10001", task)?;
+    replay(rt, "minutes 10001", task, &[], &[])?;
     task = worked();
     task.leader[2] = action(1, 0, 0, 0);
-    judge(rt, b"unused outage with a price", task)?;
+    replay(rt, "unused outage with a price", task, &[], &[])?;
     task = worked();
     task.leader[15] = action(0, 0, 0, 1);
-    judge(rt, b"unused outage that gives", task)?;
+    replay(rt, "unused outage that gives", task, &[], &[])?;
     task = worked();
     task.follower[31] = action(0, 1, 0, 0);
-    judge(rt, b"unused move that needs", task)?;
+    replay(rt, "unused move that needs", task, &[], &[])?;
     task.follower[31] = action(0, 0, 1, 0);
     replay(
         rt,
-        b"unused move that drops, and no action",
+        "unused move that drops, and no action",
         task,
         &[9],
         &[9],
     )
 }
 
-fn smaller<'a>(rt: &impl Print, label: &[u8], p: &'a [u8], q: &'a [u8]) -> io::Result<()> {
-    print(rt, label)?;
-    print(rt, b":")?;
+fn smaller(rt: &impl Print, label: &str, p: &[u8], q: &[u8]) -> io::Result<()> {
+    print!(rt; "{label}:")?;
     print_numbers(rt, strips::smaller(p, q))?;
-    print(rt, b"\n")
+    println!(rt)
 }
 
 fn main(rt: HostRuntime) -> io::Result<()> {
@@ -171,8 +158,8 @@ fn main(rt: HostRuntime) -> io::Result<()> {
     invalid_sizes(&rt)?;
     invalid_sets(&rt)?;
     invalid_places(&rt)?;
-    smaller(&rt, b"fewer steps", &[2, 1], &[9])?;
-    smaller(&rt, b"first difference", &[2, 1, 9], &[2, 3, 1])?;
-    smaller(&rt, b"second smaller", &[2, 3, 1], &[2, 1, 9])?;
-    smaller(&rt, b"empty", &[1], &[])
+    smaller(&rt, "fewer steps", &[2, 1], &[9])?;
+    smaller(&rt, "first difference", &[2, 1, 9], &[2, 3, 1])?;
+    smaller(&rt, "second smaller", &[2, 3, 1], &[2, 1, 9])?;
+    smaller(&rt, "empty", &[1], &[])
 }

@@ -1,4 +1,2 @@
--- What the contracts of this crate mean; `Laws` has what is proved about counts.
-pub mod Count
+-- What the contracts of this crate mean.
 pub mod Tasks
-pub mod Laws

@@ -1,10 +1,9 @@
 -- The tasks that the test programs start from, and what an entry holds before a call.
-use Rattle.std.specs.Prelude.{◌∷◌, ℕ, replicate}
+use Rattle.std.specs.Prelude.{Some, ◌∷◌, ℕ, replicate}
 use Rattle.strips.specs.Limits.{max_leader, max_follower}
 use Rattle.strips.specs.Task.{idle}
 use Rattle.strips.specs.declared.Action.{Action}
 use Rattle.strips.specs.declared.Task.{Task}
-use Rattle.outcome.specs.declared.Answer.TheVariants.{Cost}
 use Rattle.outcome.specs.declared.Entry.{Entry}
 
 abbrev pub act : ℕ → ℕ → ℕ → ℕ → Action
@@ -35,4 +34,4 @@ worked_hall = record {
 }
 
 abbrev pub other_entry : Entry
-other_entry = record { price = record { 0 = 77 }; answer = Cost (record { 0 = 66 }); leader_steps = 55; follower_steps = 44 }
+other_entry = record { price = record { 0 = 77 }; answer = Some (record { 0 = 66 }); leader_steps = 55; follower_steps = 44 }

@@ -1,51 +1,46 @@
-// Prints on standard output.
+// Prints on standard output. Functions print, since `Display` and the types are of other crates, so that no `impl` of it may stand here.
 use outcome::{Answer, Entry, Refusal};
 use std::io;
 
-pub fn print(rt: &impl Print, text: &[u8]) -> io::Result<()> {
-    rt.write_all(text)
-}
-
-pub fn print_field(rt: &impl Print, name: &[u8], number: u64) -> io::Result<()> {
-    print(rt, name)?;
-    print!(rt; "={number}")
-}
-
 pub fn print_answer(rt: &impl Print, answer: Answer) -> io::Result<()> {
     match answer {
-        Answer::Cost(minutes) => print_field(rt, b" answer", minutes.0 as u64),
-        Answer::None => print(rt, b" answer=none"),
+        Some(minutes) => print!(rt; " answer={}", minutes.0),
+        None => print!(rt; " answer=none"),
     }
 }
 
 pub fn print_refusal(rt: &impl Print, refusal: Refusal) -> io::Result<()> {
-    print_field(rt, b" refused", refusal.number() as u64)?;
-    print_field(rt, b" place", refusal.place() as u64)
+    print!(rt; " refused={} place={}", refusal.number(), refusal.place())
 }
 
-pub fn print_entry(rt: &impl Print, entry: Entry) -> io::Result<()> {
-    let price = entry.price;
-    let answer = entry.answer;
-    print_field(rt, b"  price", price.0 as u64)?;
-    print_answer(rt, answer)?;
-    print_field(rt, b" outages", entry.leader_steps as u64)?;
-    print_field(rt, b" moves", entry.follower_steps as u64)?;
-    print(rt, b"\n")
+fn print_entry(rt: &impl Print, entry: Entry) -> io::Result<()> {
+    print!(rt; "  price={}", entry.price.0)?;
+    print_answer(rt, entry.answer)?;
+    println!(rt;
+        " outages={} moves={}",
+        entry.leader_steps, entry.follower_steps
+    )
 }
 
-// A number behind a comma.
-pub fn print_item(rt: &impl Print, number: u64) -> io::Result<()> {
-    print!(rt; ",{number}")
-}
-
-fn print_number(rt: &impl Print, number: u8) -> io::Result<()> {
-    print_item(rt, number as u64)
+// Each entry on a line.
+pub fn print_entries(rt: &impl Print, entries: &[Entry]) -> io::Result<()> {
+    for entry in entries {
+        print_entry(rt, *entry)?;
+    }
+    Ok(())
 }
 
 // The numbers of a plan slice, each behind a comma.
 pub fn print_numbers(rt: &impl Print, numbers: &[u8]) -> io::Result<()> {
     for number in numbers {
-        print_number(rt, *number)?;
+        print!(rt; ",{number}")?;
     }
     Ok(())
+}
+
+// The same on a line of its own.
+pub fn print_plans(rt: &impl Print, plans: &[u8]) -> io::Result<()> {
+    print!(rt; "  plans")?;
+    print_numbers(rt, plans)?;
+    println!(rt)
 }

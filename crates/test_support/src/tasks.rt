@@ -2,7 +2,7 @@
 ghost use Rattle.std.specs.Prelude.{◌≡◌};
 ghost use Rattle.test_support.specs.Tasks.{act, bare_task, worked_hall, other_entry};
 
-use outcome::{Answer, Entry, Minutes, Price};
+use outcome::{Entry, Minutes, Price};
 use strips::{Action, MAX_FOLLOWER, MAX_LEADER, Task};
 
 pub fn action(cost: u32, precondition: u64, delete: u64, add: u64) -> Action
@@ -20,15 +20,15 @@ pub fn action(cost: u32, precondition: u64, delete: u64, add: u64) -> Action
 pub fn bare(initial: u64, goal: u64) -> Task
     ensures { result ≡ bare_task initial goal }
 {
-    let idle = action(0, 0, 0, 0);
+    let unused = Action::default();
     Task {
         facts: 6,
         initial,
         goal,
         leader_count: 0,
         follower_count: 0,
-        leader: [idle; MAX_LEADER],
-        follower: [idle; MAX_FOLLOWER],
+        leader: [unused; MAX_LEADER],
+        follower: [unused; MAX_FOLLOWER],
     }
 }
 
@@ -53,7 +53,7 @@ pub fn other_entry() -> Entry
 {
     Entry {
         price: Price(77),
-        answer: Answer::Cost(Minutes(66)),
+        answer: Some(Minutes(66)),
         leader_steps: 55,
         follower_steps: 44,
     }

@@ -1,9 +1,0 @@
--- `report_program::reading::read_input` meets its contract.
-use Rattle.std.proofs.Common.{◌≡◌, ◌-◌, ◌≤◌, length}
-use Rattle.report_program.proofs.reading.read_input.Given as goal
-
-abbrev pub invariant-loop-done : goal.invariant-loop-done
-invariant-loop-done g l = (length l.bytes ≡ length l.initial.bytes) × (l.done ≤ length l.initial.bytes)
-
-abbrev pub decreases-loop-done : goal.decreases-loop-done
-decreases-loop-done g l = length l.initial.bytes - l.done

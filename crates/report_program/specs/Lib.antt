@@ -1,2 +1,0 @@
--- What the program's functions promise.
-pub mod Input

@@ -1,0 +1,2 @@
+-- What proofs of functions share.
+pub mod Fits

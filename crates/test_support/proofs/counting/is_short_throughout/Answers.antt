@@ -1,5 +1,0 @@
--- `test_support::counting::is_short_throughout` meets its contract.
-use Rattle.test_support.proofs.counting.is_short_throughout.Goals as goal
-
-pub returns : goal.returns
-returns c = cc

@@ -1,2 +1,0 @@
--- What is proved about the meanings.
-pub mod Count
