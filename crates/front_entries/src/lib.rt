@@ -18,7 +18,7 @@ fn clear_lines(rows: &mut [[u64; WORDS]], n: usize)
     }
 }
 
-// Stores the entries of the first n lines, and clears the rows.
+// Stores the entries of the first n lines, and clears the rows. By index: k is of an entry and of its row.
 pub fn take_entries(entries: &mut [Entry], rows: &mut [[u64; WORDS]], n: usize)
     requires { (n ≤ length entries.old) × Listed rows.old n }
     ensures { (entries.new ≡ stored entries.old rows.old n) × (rows.new ≡ rows_left rows.old n) }

@@ -5,7 +5,7 @@ ghost use Rattle.std.specs.Prelude.{◌≤◌, IfOk, length};
 
 use std::io::{self, Read};
 
-// Reads until the input ends or the slice is full: how many bytes.
+// Reads until the input ends or the slice is full: how many bytes. No range: how much a read brings is not known before it.
 pub fn read_full(reader: &mut impl Read, bytes: &mut [u8]) -> io::Result<usize>
     ensures { IfOk result (λ n. n ≤ length bytes.old) }
 {

@@ -68,7 +68,7 @@ pub fn write_leader_plan(rows: &[[u64; WORDS]], i: usize, plan: &mut [u8]) -> us
     write_plan(rows, i, plan)
 }
 
-// The same for the best response of row i.
+// The same for the best response of row i. By index, as `write_plan`.
 pub fn write_response(rows: &[[u64; WORDS]], i: usize, plan: &mut [u8]) -> usize
     requires { Readable rows.now i × (length (follower_plan_at rows.now i) ≤ length plan.old) }
     ensures { (result ≡ length (follower_plan_at rows.now i)) × (plan.new ≡ follower_plan_at rows.now i ++ drop result plan.old) }

@@ -9,8 +9,8 @@ use outcome::Refusal;
 use rows::{BUCKET_WORDS, LINK_WORDS, WORDS};
 use search::MAX_PLACES;
 
-// Each slice has one place for a state: the state, its buckets in an index of the states, its transitions, and its columns of the searches. C lends them as four
-// slices, of any lengths, so they are no slice of structs.
+// Each slice has one place for a state: the state, its buckets in an index of the states, its transitions, and its columns of the searches. C lends them as
+// four slices, of any lengths, so they are no slice of structs.
 #[derive(Drop)]
 pub struct Workspace<'a> {
     pub states: &'a mut [u64],
