@@ -29,14 +29,15 @@ module _ (t : Task) (p q : List ℕ) where
     unfolding returned
     stops_leader u = rw u.refusal (ap (refused 12) (omega arith) ∙ sym (refuses_12_leader t p q n u.before))
 
-    pub stops_follower : {C : Type 0} {amount : C → ℕ} {r : Progress C} {e : Refusal} → Ran amount (leader_actions t) t.initial p r → Stuck (follower_actions t) r.state q (length p) e
-        → returned (Err e) ≡ replayed t p q
+    pub stops_follower : {C : Type 0} {amount : C → ℕ} {r : Progress C} {e : Refusal} → Ran amount (leader_actions t) t.initial p r
+        → Stuck (follower_actions t) r.state q (length p) e → returned (Err e) ≡ replayed t p q
     unfolding returned
     stops_follower {e = e} d u =
         let s : Stuck (follower_actions t) (middle t p q) q (length p) e = rw d.state at u in
         rw s.refusal (sym (refuses_12_follower t p q n d.steps s.before))
 
-    pub ends_both : {r : Progress Price} {u : Progress Minutes} {g : Bool} → Ran (λ x. x.0) (leader_actions t) t.initial p r → Ran (λ x. x.0) (follower_actions t) r.state q u
+    pub ends_both : {r : Progress Price} {u : Progress Minutes} {g : Bool} → Ran (λ x. x.0) (leader_actions t) t.initial p r
+        → Ran (λ x. x.0) (follower_actions t) r.state q u
         → g ≡ says (dec_holds u.state t.goal) → returned (Ok (record { price = r.cost; minutes = u.cost; state = u.state; goal = g })) ≡ replayed t p q
     unfolding returned
     ends_both {u = u} d e h =

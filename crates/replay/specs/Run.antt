@@ -10,7 +10,8 @@ use Rattle.outcome.specs.declared.Refusal.TheVariants.{UnknownAction, NotApplica
 use Rattle.replay.specs.Replay.{known_steps, applied_steps, end_state}
 use Rattle.replay.specs.declared.running.Progress.{Progress}
 
--- question 11 for a plan whose steps are counted on from earlier ones: each step is the number of one of n actions, or the refusal says which is the first that is not
+-- question 11 for a plan whose steps are counted on from earlier ones:
+-- each step is the number of one of n actions, or the refusal says which is the first that is not
 abbrev pub AllKnown : ℕ → List ℕ → Type 0
 AllKnown n p = known_steps n p ≡ length p
 

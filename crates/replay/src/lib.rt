@@ -4,7 +4,7 @@
 mod running;
 
 use outcome::{Minutes, Price};
-pub use running::replay;
+pub use running::{replay, replay_valid};
 
 // A leader plan and then a follower plan, run from the initial state.
 #[derive(Clone, Copy)]

@@ -6,7 +6,7 @@ ghost use Rattle.replay.specs.Run.{Runnable, Ran, Stuck, AllKnown, Unknown, Numb
 
 use crate::Ended;
 use outcome::{Cost, Minutes, Price, Refusal};
-use strips::{Action, MAX_STEPS, Task, applies, holds, is_valid, successor};
+use strips::{Action, MAX_STEPS, Task, ValidTask, applies, holds, successor};
 
 // Question 11 for a plan whose steps are counted on from `earlier` ones.
 fn ask_known(count: usize, plan: &[u8], earlier: usize) -> Result<(), Refusal>
@@ -53,14 +53,19 @@ fn run<C: Cost>(
 }
 
 // Question 12 and what a replay returns, where questions 9 to 11 have their yes.
-fn replay_known(task: Task, leader_plan: &[u8], follower_plan: &[u8]) -> Result<Ended, Refusal>
-    requires { Numbered task leader_plan.now follower_plan.now }
-    ensures { returned result ≡ replayed task leader_plan.now follower_plan.now }
+fn replay_known(task: &Task, leader_plan: &[u8], follower_plan: &[u8]) -> Result<Ended, Refusal>
+    requires { Numbered task.now leader_plan.now follower_plan.now }
+    ensures { returned result ≡ replayed task.now leader_plan.now follower_plan.now }
 {
     let leader = task.leader_actions();
     let follower = task.follower_actions();
-    let first = run::<Price>(leader, task.initial, leader_plan, 0)?;
-    let second = run::<Minutes>(follower, first.state, follower_plan, leader_plan.len())?;
+    let first = run::<Price>(leader.list(), task.initial, leader_plan, 0)?;
+    let second = run::<Minutes>(
+        follower.list(),
+        first.state,
+        follower_plan,
+        leader_plan.len(),
+    )?;
     Ok(Ended {
         price: first.cost,
         minutes: second.cost,
@@ -69,16 +74,26 @@ fn replay_known(task: Task, leader_plan: &[u8], follower_plan: &[u8]) -> Result<
     })
 }
 
-pub fn replay(task: Task, leader_plan: &[u8], follower_plan: &[u8]) -> Result<Ended, Refusal>
+// The replay of a task of which question 9 has been asked.
+pub fn replay_valid(
+    task: ValidTask,
+    leader_plan: &[u8],
+    follower_plan: &[u8],
+) -> Result<Ended, Refusal>
     ensures { returned result ≡ replayed task leader_plan.now follower_plan.now }
 {
-    if !is_valid(task) {
-        return Err(Refusal::InvalidTask);
-    }
+    let task = task.task();
     if MAX_STEPS < leader_plan.len() || MAX_STEPS < follower_plan.len() {
         return Err(Refusal::PlanTooLong);
     }
     ask_known(task.leader_count, leader_plan, 0)?;
     ask_known(task.follower_count, follower_plan, leader_plan.len())?;
     replay_known(task, leader_plan, follower_plan)
+}
+
+pub fn replay(task: Task, leader_plan: &[u8], follower_plan: &[u8]) -> Result<Ended, Refusal>
+    ensures { returned result ≡ replayed task leader_plan.now follower_plan.now }
+{
+    let task = ValidTask::new(task).ok_or(Refusal::InvalidTask)?;
+    replay_valid(task, leader_plan, follower_plan)
 }

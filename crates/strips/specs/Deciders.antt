@@ -42,7 +42,8 @@ dec_places facts size n places =
     dec_equivalent
     (λ w. record { long = w.0; room = w.1.0; used = w.1.1.0; unused = λ i l h. w.1.1.1 i h l }, λ p. (p.long, (p.room, (p.used, λ i h l. p.unused i l h))))
     (Dec.and (ℕ_discrete (length places) size) (Dec.and (dec_le n size)
-    (Dec.and (dec_all_below (λ i. dec_proper facts (get_or places i idle)) n) (dec_all_below (λ i. dec_when (dec_le n i) (dec_unused (get_or places i idle))) size))))
+    (Dec.and (dec_all_below (λ i. dec_proper facts (get_or places i idle)) n)
+    (dec_all_below (λ i. dec_when (dec_le n i) (dec_unused (get_or places i idle))) size))))
 
 unfoldable pub dec_valid : (t : Task) → Dec (Valid t)
 dec_valid t =

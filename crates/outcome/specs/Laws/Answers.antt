@@ -14,8 +14,7 @@ up_to_trans (number_up_to h) up_to_none = up_to_none
 up_to_trans up_to_none up_to_none = up_to_none
 
 pub up_to_antisym : {x y : Value} → UpTo x y → UpTo y x → x ≡ y
-up_to_antisym (number_up_to h) (number_up_to k) = ap minutes (omega arith)
-up_to_antisym up_to_none up_to_none = refl
+up_to_antisym h k = grind arith
 
 pub below_up_to : {x y : Value} → Below x y → UpTo x y
 below_up_to (number_below {a = a} {b = b} h) = let l : a ≤ b = omega arith in number_up_to l
@@ -23,18 +22,7 @@ below_up_to below_none = up_to_none
 
 -- none is below nothing
 pub none_below : {y : Value} → Below none y → ⊥
-none_below h = of h refl
-  where
-    of : {x y : Value} → Below x y → x ≡ none → ⊥
-    of (number_below h) e = let z : ◌≡◌ {A = ℕ} 0 1 = cc in omega arith
-    of below_none e = let z : ◌≡◌ {A = ℕ} 0 1 = cc in omega arith
-
-pub number_less : {a b : ℕ} → Below (minutes a) (minutes b) → a < b
-number_less {a} {b} h = of h refl refl
-  where
-    of : {x y : Value} → Below x y → x ≡ minutes a → y ≡ minutes b → a < b
-    of (number_below {a = c} {b = d} k) e f = let l : c ≡ a = cc in let m : d ≡ b = cc in omega arith
-    of below_none e f = absurd (let z : ◌≡◌ {A = ℕ} 0 1 = cc in omega arith)
+none_below h = grind arith
 
 pub below_trans : {x y z : Value} → Below x y → Below y z → Below x z
 below_trans (number_below {a = a} h) (number_below {b = b} k) = let l : a < b = omega arith in number_below l

@@ -17,7 +17,8 @@ use Rattle.replay.specs.Run.{Runnable, Numbered}
 use Rattle.replay.specs.Laws.Steps.{known_most, applied_most, passes_runs, runs_known, runs_applied, runs_end}
 
 -- of the places that a task uses, each holds an action that costs at most the limit
-runnable : {facts size n : ℕ} {places : List Action} {p : List ℕ} → Places facts size n places → known_steps n p ≡ length p → length p ≤ max_steps → Runnable (take n places) p
+runnable : {facts size n : ℕ} {places : List Action} {p : List ℕ} → Places facts size n places → known_steps n p ≡ length p → length p ≤ max_steps
+    → Runnable (take n places) p
 runnable {n = n} {places = places} {p = p} v known short =
     let count : length (take n places) ≡ n = omega (arith, length-take n places, v.long, v.room) in
     record { known = rw count known; short = short; priced = λ i h. let l : i < n = omega arith in rw (get_or-take n places i idle l) (v.used i l).cost }
@@ -65,7 +66,8 @@ module _ (t : Task) (p q : List ℕ) where
 
   pub refuses_10_follower : Valid t → length p ≤ max_steps → max_steps < length q → replayed t p q ≡ refused 10 0
   unfolding replayed
-  refuses_10_follower v l h = asked_yes (dec_valid t) v _ _ ∙ asked_yes (dec_le (length p) max_steps) l _ _ ∙ asked_no (dec_le (length q) max_steps) (λ k. omega arith) _ _
+  refuses_10_follower v l h =
+      asked_yes (dec_valid t) v _ _ ∙ asked_yes (dec_le (length p) max_steps) l _ _ ∙ asked_no (dec_le (length q) max_steps) (λ k. omega arith) _ _
 
   asks_11 : Valid t → length p ≤ max_steps → length q ≤ max_steps → replayed t p q ≡ from_11
   unfolding replayed
@@ -98,14 +100,21 @@ module _ (t : Task) (p q : List ℕ) where
   both_run n e f = asks_12 n ∙ steps_pass 12 0 p _ _ e ∙ steps_pass 12 (length p) q _ _ f
 
   -- plans that run are replayed to their end
-  pub runs_replayed : {m e : ℕ} → Valid t → length p ≤ max_steps → length q ≤ max_steps → Runs (leader_actions t) t.initial p m → Runs (follower_actions t) m q e
+  pub runs_replayed : {m e : ℕ} → Valid t → length p ≤ max_steps → length q ≤ max_steps
+      → Runs (leader_actions t) t.initial p m → Runs (follower_actions t) m q e
       → replayed t p q ≡ ran (cost (leader_actions t) p) (cost (follower_actions t) q) e (says (dec_holds e t.goal))
   runs_replayed {m} {e} v l k r u =
       let at_middle : middle ≡ m = runs_end (leader_actions t) r in
       let u' : Runs (follower_actions t) middle q e = rw at_middle u in
       let at_end : end ≡ e = runs_end (follower_actions t) u' in
       both_run
-      (record { valid = v; short_leader = l; short_follower = k; known_leader = rw (← leader_count v) (runs_known _ r); known_follower = rw (← follower_count v) (runs_known _ u) })
+      (record {
+        valid = v;
+        short_leader = l;
+        short_follower = k;
+        known_leader = rw (← leader_count v) (runs_known _ r);
+        known_follower = rw (← follower_count v) (runs_known _ u);
+      })
       (runs_applied _ r) (runs_applied _ u')
       ∙ ap (λ s. ran (cost (leader_actions t) p) (cost (follower_actions t) q) s (says (dec_holds s t.goal))) at_end
 
@@ -122,23 +131,36 @@ module _ (t : Task) (p q : List ℕ) where
       never : {r : Returned} → replayed t p q ≡ r → (r.number ≡ 0 → ⊥) → BothRun
       never e n = absurd (n (rw (← e) z))
 
-      ask_12 : Numbered t p q → Dec (applied_steps (leader_actions t) t.initial p < length p) → Dec (applied_steps (follower_actions t) middle q < length q) → BothRun
+      leader_applied : (applied_steps (leader_actions t) t.initial p < length p → ⊥) → applied_steps (leader_actions t) t.initial p ≡ length p
+      leader_applied h = omega (arith, applied_most (leader_actions t) t.initial p)
+
+      follower_applied : (applied_steps (follower_actions t) middle q < length q → ⊥) → applied_steps (follower_actions t) middle q ≡ length q
+      follower_applied h = omega (arith, applied_most (follower_actions t) middle q)
+
+      ask_12 : Numbered t p q → Dec (applied_steps (leader_actions t) t.initial p < length p)
+          → Dec (applied_steps (follower_actions t) middle q < length q) → BothRun
       ask_12 n (yes h) d = never (refuses_12_leader n h) (λ e. omega arith)
-      ask_12 n (no h) (yes k) = never (refuses_12_follower n (omega (arith, applied_most (leader_actions t) t.initial p)) k) (λ e. omega arith)
+      ask_12 n (no h) (yes k) = never (refuses_12_follower n (leader_applied h) k) (λ e. omega arith)
       ask_12 n (no h) (no k) = record {
         valid = n.valid;
-        leader = passes_runs (leader_actions t) t.initial p (rw (leader_count n.valid) n.known_leader) (omega (arith, applied_most (leader_actions t) t.initial p));
-        follower = passes_runs (follower_actions t) middle q (rw (follower_count n.valid) n.known_follower) (omega (arith, applied_most (follower_actions t) middle q));
-        state = ap (λ (r : Returned). r.state)
-            (both_run n (omega (arith, applied_most (leader_actions t) t.initial p)) (omega (arith, applied_most (follower_actions t) middle q)));
+        leader = passes_runs (leader_actions t) t.initial p (rw (leader_count n.valid) n.known_leader) (leader_applied h);
+        follower = passes_runs (follower_actions t) middle q (rw (follower_count n.valid) n.known_follower) (follower_applied k);
+        state = ap (λ (r : Returned). r.state) (both_run n (leader_applied h) (follower_applied k));
       }
 
-      ask_11 : Valid t → length p ≤ max_steps → length q ≤ max_steps → Dec (known_steps t.leader_count p < length p) → Dec (known_steps t.follower_count q < length q) → BothRun
+      ask_11 : Valid t → length p ≤ max_steps → length q ≤ max_steps
+          → Dec (known_steps t.leader_count p < length p) → Dec (known_steps t.follower_count q < length q) → BothRun
       ask_11 v l k (yes h) d = never (refuses_11_leader v l k h) (λ e. omega arith)
       ask_11 v l k (no h) (yes i) = never (refuses_11_follower v l k (omega (arith, known_most t.leader_count p)) i) (λ e. omega arith)
       ask_11 v l k (no h) (no i) =
           ask_12
-          (record { valid = v; short_leader = l; short_follower = k; known_leader = omega (arith, known_most t.leader_count p); known_follower = omega (arith, known_most t.follower_count q) })
+          (record {
+            valid = v;
+            short_leader = l;
+            short_follower = k;
+            known_leader = omega (arith, known_most t.leader_count p);
+            known_follower = omega (arith, known_most t.follower_count q);
+          })
           (dec_lt _ _) (dec_lt _ _)
 
       ask_10 : Valid t → Dec (length p ≤ max_steps) → Dec (length q ≤ max_steps) → BothRun

@@ -48,7 +48,8 @@ module _ {acts : List Action} {p : List ℕ} (ok : Runnable acts p) {i : ℕ} (h
         let here : applied_steps acts s p ≡ i = omega (arith, so_far.ahead, applied_no_more acts s' p i h n) in
         record { before = omega arith; refusal = ap (λ k. NotApplicable (earlier + k + 1)) (sym here) }
 
-pub running_ends : {C : Type 0} (amount : C → ℕ) (acts : List Action) (s : ℕ) (p : List ℕ) (r : Progress C) → Running acts s p (length p) r.state (amount r.cost) → Ran amount acts s p r
+pub running_ends : {C : Type 0} (amount : C → ℕ) (acts : List Action) (s : ℕ) (p : List ℕ) (r : Progress C)
+    → Running acts s p (length p) r.state (amount r.cost) → Ran amount acts s p r
 running_ends amount acts s p r so_far =
     let whole : take (length p) p ≡ p = take_all (length p) p (omega arith) in
     record {

@@ -10,7 +10,8 @@ pub returns-then-not-contains : goal.returns-then-not-contains
 returns-then-not-contains c =
     let earlier = c.args.earlier in
     let unknown : Known c.args.count (get_or c.args.plan.now c.loop-i.i 0) → ⊥ = λ k. search rules in
-    let here : known_steps c.args.count c.args.plan.now ≡ c.loop-i.i = omega (arith, c.loop-i.invariant, known_no_more c.args.count c.args.plan.now c.loop-i.i c.loop-i-test.true unknown) in
+    let no_more = known_no_more c.args.count c.args.plan.now c.loop-i.i c.loop-i-test.true unknown in
+    let here : known_steps c.args.count c.args.plan.now ≡ c.loop-i.i = omega (arith, c.loop-i.invariant, no_more) in
     record { before = omega arith; refusal = ap (λ n. UnknownAction (earlier + n + 1)) (sym here) }
 
 pub loop-i-preserved : goal.loop-i-preserved

@@ -24,7 +24,8 @@ pub loop-i-preserved : goal.loop-i-preserved
 loop-i-preserved g c =
     let applied : Applies (get_or c.args.actions.now (c.from.result - 1) idle) c.loop-i.state = result_yes _ c.applies.ensures c.if-not-applies.false in
     rw (c.successor-state.ensures, c.from.ensures)
-    (running_more c.requires.runnable c.loop-i-test.true c.loop-i.invariant (rw c.from.ensures at applied) (rw (c.of.ensures, c.from.ensures) at c.plus-cost.ensures))
+    (running_more c.requires.runnable c.loop-i-test.true c.loop-i.invariant (rw c.from.ensures at applied)
+    (rw (c.of.ensures, c.from.ensures) at c.plus-cost.ensures))
 
 pub returns : goal.returns
 returns g c =
