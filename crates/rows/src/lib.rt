@@ -8,7 +8,7 @@ pub use links::{LIST_PLACES, link_to, linked_row, list_links};
 pub use words::{Word, get, put};
 
 // A row of the searches: 64-bit words. C lends a row as so many words, so its columns are numbers of words and no fields of a struct; and since a word is a
-// number, one that may have none is 0 then, and else 1 more than what it has.
+// number, one that may have none is 0 then: KEY, VALUE, PLACE and the links of 16 bits, which are else 1 more than what they have, and LINK.
 pub const WORDS: usize = 8;
 
 // Its columns. Key, link and order are the forward search's, value and hop the backward search's; both have places and heap. Notes are free for whoever

@@ -1,4 +1,4 @@
-// Words of rows: read and stored, whatever the words are and however many a row has.
+// Words of rows: read and stored, whatever the words are and however many a row has. In place of `rows[i][c]`, since what is said of it is said of columns.
 ghost use Rattle.std.specs.Prelude.{◌≡◌, ◌<◌, length, get_or};
 ghost use Rattle.rows.specs.Columns.{column, StoredIn};
 

@@ -8,11 +8,7 @@ use Rattle.transitions.specs.Transitions.{weigh, Leads, Met, Tight, Keyed, Weigh
 
 -- the weights of few actions of bounded cost can be added up
 pub weights_of : {acts : List Action} {W : List ℕ} → Weighed acts W → length acts ≤ max_follower → ((k : ℕ) → (action acts k).cost ≤ max_cost) → Weights W
-weights_of {acts} {W} w few priced = record {
-  few = omega (arith, w.size);
-  some = λ k h. omega (arith, w.each k (h.0, omega (arith, h.1, w.size)));
-  small = λ k h. omega (arith, w.each k (h.0, omega (arith, h.1, w.size)), priced k);
-}
+weights_of {acts} {W} w few priced = grind arith
 
 -- a way of this weight leads from the source to a row
 pub data Way (W : List ℕ) (T : List (List ℕ)) (src : ℕ) : ℕ → ℕ → Type 0 where
