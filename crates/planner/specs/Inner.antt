@@ -6,3 +6,4 @@ pub mod First
 pub mod Goal
 pub mod Response
 pub mod Answer
+pub mod Key

@@ -8,13 +8,14 @@ use crate::Answered;
 use crate::response::find_response_within;
 use least_plans::write_plan;
 use outcome::{Minutes, Refusal};
-use questions::Workspace;
-use replay::replay;
+use questions::{Workspace, record_verdict};
+use replay::replay_valid;
 use rows::{KEY, WORDS, get};
 use search::{cost_of_key, steps_of_key};
-use strips::Task;
+use strips::{Task, ValidTask};
 
-// Questions 13 and 15, and what the row that was found says of the best response.
+// Questions 13 and 15, and what the row that was found says of the best response. It takes the search's whole result, since the workspace is cleared behind it
+// after a refusal too. The row has been searched forward only, so it is no `Row`.
 fn answer_row(
     rows: &[[u64; WORDS]],
     found: Result<Option<usize>, Refusal>,
@@ -44,7 +45,7 @@ fn answer_row(
 
 // Questions 13 and 15 and the answer from a state, in the first n places of the working slices; these are cleared then.
 fn respond(
-    task: Task,
+    task: ValidTask,
     s: u64,
     n: usize,
     work: &mut Workspace<'_>,
@@ -71,6 +72,7 @@ pub fn best_response(
     ensures promise { AnswerCall task leader_plan.now (lent work) (lent plan) (returned result) }
 {
     let n = work.places()?;
-    let end = replay(task, leader_plan, &[])?;
+    let task = record_verdict(task)?;
+    let end = replay_valid(task, leader_plan, &[])?;
     respond(task, end.state, n, work, plan)
 }

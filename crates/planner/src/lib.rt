@@ -11,10 +11,7 @@ mod weights;
 
 pub use answer_call::best_response;
 use outcome::Answer;
-pub use reading::{
-    answer, leader_steps, note, price, put_note, rank, response_steps, settled_row,
-    write_leader_plan, write_response,
-};
+pub use reading::{Row, note, put_note, settled_row};
 pub use searches::solve;
 
 // The answer, and the number of steps of its plan: document 01 hands back both, 0 steps where the answer is none, and compares answers without them.

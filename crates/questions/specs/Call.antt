@@ -54,7 +54,8 @@ module _ {X A : Type 0} (c : Call X A) where
   abbrev pub applied : ℕ
   applied =
       let leader = leader_actions c.task in
-      steps (applied_steps leader c.task.initial c.leader_plan) (applied_steps (follower_actions c.task) (end_state leader c.task.initial c.leader_plan) c.follower_plan)
+      let middle = end_state leader c.task.initial c.leader_plan in
+      steps (applied_steps leader c.task.initial c.leader_plan) (applied_steps (follower_actions c.task) middle c.follower_plan)
 
   -- what each number asks of the plans and of the record
   abbrev pub Replay : ℕ → Type 0

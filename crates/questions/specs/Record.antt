@@ -23,10 +23,10 @@ unfoldable pub record_fault : Task → ℕ
 record_fault t = first_no (dec_record t) record_asks
 
 -- number and place that a verdict says, 0 and 0 where nothing is refused
-abbrev pub number_in : Result (Unit {0}) Refusal → ℕ
+abbrev pub number_in : {A : Type 0} → Result A Refusal → ℕ
 number_in (Ok _) = 0
 number_in (Err q) = number_of q
 
-abbrev pub place_in : Result (Unit {0}) Refusal → ℕ
+abbrev pub place_in : {A : Type 0} → Result A Refusal → ℕ
 place_in (Ok _) = 0
 place_in (Err q) = place_of q

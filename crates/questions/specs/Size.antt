@@ -1,9 +1,11 @@
 -- Question 8, about the places of the working slices.
 use Rattle.std.proofs.Math.Logic.Dec
 use mathlib.Core.List.{List, [], ◌∷◌, Memᴰ}
-use Rattle.std.specs.Prelude.{ℕ, ◌≤◌, min}
+use Rattle.std.specs.Prelude.{◌≡◌, ℕ, ◌≤◌, min, Result, MatchResult}
 use Rattle.std.proofs.Math.Decide.{dec_le}
 use Rattle.strips.specs.Decision.{ask}
+use Rattle.outcome.specs.declared.Refusal.{Refusal}
+use Rattle.outcome.specs.declared.Refusal.TheVariants.{WorkspaceSize}
 use Rattle.search.specs.Limits.{max_places}
 
 -- each working slice has 1 to 32,768 places
@@ -19,3 +21,7 @@ shortest (n ∷ sizes) = min n (shortest sizes)
 unfoldable pub capacity : List ℕ → ℕ
 capacity [] = max_places
 capacity (n ∷ sizes) = ask (Dec.and (dec_le 1 n) (dec_le n max_places)) 0 (min n (capacity sizes))
+
+-- what question 8 hands back of slices of these sizes
+abbrev pub PlacesOf : List ℕ → Result ℕ Refusal → Type 0
+PlacesOf sizes r = MatchResult r (λ n. (1 ≤ n) × (n ≡ capacity sizes)) (λ e. (0 ≡ capacity sizes) × (e ≡ WorkspaceSize))

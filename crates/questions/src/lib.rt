@@ -1,22 +1,22 @@
-// Not for outsiders. What is lent to work in, and the questions that calls have in common: about the record, and about the places of the working slices.
+// Not for outsiders. What is lent to work in, with the question about its places, and the question about the record. What calls promise in common stands in
+// specs/.
 #![tactic(auto)]
 
 mod workspace;
 
-ghost use Rattle.std.specs.Prelude.{◌≡◌};
+ghost use Rattle.std.specs.Prelude.{◌≡◌, MatchResult};
+ghost use Rattle.strips.specs.Task.{Valid};
+ghost use Rattle.outcome.specs.declared.Refusal.TheVariants.{InvalidTask};
 ghost use Rattle.questions.specs.Record.{record_fault, number_in, place_in};
 
 use outcome::Refusal;
-use strips::{Task, is_valid};
-pub use workspace::Workspace;
+use strips::{Task, ValidTask};
+pub use workspace::{Workspace, places};
 
-// The first question about the record that gets no. `replay`, which this crate is built over, and the writer of hall files ask `is_valid` for themselves: no
-// crate below all three has both tasks and refusals.
-pub fn record_verdict(task: Task) -> Result<(), Refusal>
-    ensures { (number_in result ≡ record_fault task) × (place_in result ≡ 0) }
+// The first question about the record that gets no, or the task as a valid one.
+pub fn record_verdict(task: Task) -> Result<ValidTask, Refusal>
+    ensures fault { (number_in result ≡ record_fault task) × (place_in result ≡ 0) }
+    ensures valid { MatchResult result (λ valid. (valid ≡ task) × Valid task) (λ e. (e ≡ InvalidTask) × (Valid task → ⊥)) }
 {
-    if !is_valid(task) {
-        return Err(Refusal::InvalidTask);
-    }
-    Ok(())
+    ValidTask::new(task).ok_or(Refusal::InvalidTask)
 }

@@ -1,9 +1,9 @@
 // The four working slices, which every call that searches is lent.
-ghost use Rattle.std.specs.Prelude.{◌≡◌, ◌≤◌, MatchResult};
-ghost use Rattle.outcome.specs.declared.Refusal.TheVariants.{WorkspaceSize};
+ghost use Rattle.std.specs.Prelude.{[], ◌∷◌, ◌↔◌, ◌≤◌, IsTrue};
 ghost use Rattle.questions.specs.Lent.{lent};
-ghost use Rattle.questions.specs.Size.{capacity};
+ghost use Rattle.questions.specs.Size.{PlacesOf};
 ghost use Rattle.questions.specs.Workspace.{sizes_of, Cleared, RowsKept};
+ghost use Rattle.search.specs.Limits.{max_places};
 
 use outcome::Refusal;
 use rows::{BUCKET_WORDS, LINK_WORDS, WORDS};
@@ -19,31 +19,35 @@ pub struct Workspace<'a> {
     pub rows: &'a mut [[u64; WORDS]],
 }
 
-// The least of the sizes, where none is too small or too large.
-fn least(sizes: [usize; 4]) -> Result<usize, Refusal>
-    ensures { MatchResult result (λ n. (1 ≤ n) × (n ≡ capacity sizes)) (λ e. (0 ≡ capacity sizes) × (e ≡ WorkspaceSize)) }
+// Whether a working slice may have so many places.
+fn is_allowed(places: usize) -> bool
+    ensures { IsTrue result ↔ ((1 ≤ places) × (places ≤ max_places)) }
 {
-    let mut least = MAX_PLACES;
-    for size in &sizes {
-        if !(1..=MAX_PLACES).contains(size) {
-            return Err(Refusal::WorkspaceSize);
-        }
-        least = least.min(*size);
+    (1..=MAX_PLACES).contains(&places)
+}
+
+// Question 8 of four slices: the places of the shortest, where none has too few or too many.
+pub fn places(states: usize, index: usize, links: usize, rows: usize) -> Result<usize, Refusal>
+    ensures { PlacesOf (states ∷ index ∷ links ∷ rows ∷ []) result }
+{
+    let sizes = [states, index, links, rows];
+    if !sizes.iter().all(|n| is_allowed(*n)) {
+        return Err(Refusal::WorkspaceSize);
     }
-    Ok(least)
+    Ok(states.min(index).min(links).min(rows))
 }
 
 impl Workspace<'_> {
-    // Question 8: the places of the shortest slice, where none has too few or too many.
+    // The same of a workspace's own slices.
     pub fn places(&self) -> Result<usize, Refusal>
-        ensures { MatchResult result (λ n. (1 ≤ n) × (n ≡ capacity (sizes_of self.now))) (λ e. (0 ≡ capacity (sizes_of self.now)) × (e ≡ WorkspaceSize)) }
+        ensures { PlacesOf (sizes_of self.now) result }
     {
-        least([
+        places(
             self.states.len(),
             self.index.len(),
             self.links.len(),
             self.rows.len(),
-        ])
+        )
     }
 
     // Clears all but the rows.

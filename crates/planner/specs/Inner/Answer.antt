@@ -1,6 +1,6 @@
 -- The stages of the answer call, after the questions about record and plans.
 use Rattle.std.specs.Prelude.{◌≡◌, List, [], ◌∷◌, ℕ, length, Option, Result, IfSome, IfOk}
-use Rattle.strips.specs.Task.{Valid, leader_actions}
+use Rattle.strips.specs.Task.{leader_actions}
 use Rattle.strips.specs.declared.Task.{Task}
 use Rattle.outcome.specs.Answer.{Value, minutes}
 use Rattle.outcome.specs.declared.Refusal.{Refusal}
@@ -53,7 +53,6 @@ RowAnswered R found plan r =
 
 -- n places for the reach of a task, to which s belongs
 pub record Searching (t : Task) (s n : ℕ) (w : Workspace) : Type 0 where
-  pub valid : Valid t
   pub reach : Reach t s
   pub spacious : Spacious n w
   pub shortest : n ≡ shortest (sizes_of w)

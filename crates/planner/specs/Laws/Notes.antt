@@ -13,11 +13,7 @@ pub same_refl : (R : List (List ℕ)) → SameReading R R
 same_refl R = record {
   size = refl;
   readable = λ i x. x;
-  leader_plan = λ i. refl;
-  price = λ i. refl;
-  follower_plan = λ i. refl;
-  answer = λ i. refl;
-  rank = λ i. refl;
+  reading = λ i. refl;
   settled = λ p. refl;
 }
 
@@ -25,10 +21,6 @@ pub same_trans : {R R' R'' : List (List ℕ)} → SameReading R R' → SameReadi
 same_trans a b = record {
   size = b.size ∙ a.size;
   readable = λ i x. b.readable i (a.readable i x);
-  leader_plan = λ i. b.leader_plan i ∙ a.leader_plan i;
-  price = λ i. b.price i ∙ a.price i;
-  follower_plan = λ i. b.follower_plan i ∙ a.follower_plan i;
-  answer = λ i. b.answer i ∙ a.answer i;
-  rank = λ i. b.rank i ∙ a.rank i;
+  reading = λ i. b.reading i ∙ a.reading i;
   settled = λ p. b.settled p ∙ a.settled p;
 }

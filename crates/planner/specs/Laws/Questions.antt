@@ -2,7 +2,7 @@
 use Rattle.std.specs.Prelude.{◌≡◌, refl, Bool, List, [], ◌++◌, map, ℕ, leb, Ok, Err}
 use Rattle.std.proofs.Common.{sym, ◌∙◌, arith, leb-true}
 use Rattle.std.proofs.Math.Path.{ap}
-use Rattle.strips.specs.Task.{Valid, leader_actions}
+use Rattle.strips.specs.Task.{leader_actions}
 use Rattle.strips.specs.declared.Task.{Task}
 use Rattle.outcome.specs.Answer.{minutes}
 use Rattle.outcome.specs.Refusal.{number_of, place_of}
@@ -49,9 +49,6 @@ module _ (t : Task) (p : List ℕ) {price cost s : ℕ} {goal : Bool} (e : ran p
   pub ran_state : s ≡ end_state (leader_actions t) t.initial p
   unfolding end_state
   ran_state = ap (λ (r : replay.Returned). r.state) e ∙ runs.state
-
-  pub ran_valid : Valid t
-  ran_valid = runs.valid
 
   pub ran_reach : Reach t s
   ran_reach = rw ran_state (reach_leader runs.leader)

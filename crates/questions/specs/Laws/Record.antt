@@ -1,5 +1,6 @@
 -- The questions about the record, and about plans and record, all at once: what the code asks by one number.
-use Rattle.std.specs.Prelude.{◌≡◌, refl, true, false, ℕ, ◌≤◌, eqb}
+use Rattle.std.specs.Prelude.{◌≡◌, refl, true, false, ℕ, ◌≤◌, eqb, Option, Some, None, MatchOption}
+use Rattle.std.specs.Option.{ok_or}
 use Rattle.std.proofs.Common.{sym, arith}
 use mathlib.Core.List.{List, [], ◌∷◌, ◌++◌}
 use Rattle.std.proofs.lemmas.Bool.{eqb-false}
@@ -7,12 +8,13 @@ use Rattle.strips.specs.Task.{Valid}
 use Rattle.strips.specs.Deciders.{dec_valid}
 use Rattle.strips.specs.Laws.Decision.{asked_yes, asked_no}
 use Rattle.strips.specs.declared.Task.{Task}
+use Rattle.outcome.specs.declared.Refusal.TheVariants.{InvalidTask}
 use Rattle.questions.specs.Deciders.{dec_chosen}
-use Rattle.questions.specs.Asked.{Yes, No, Asked, first_no}
+use Rattle.questions.specs.Asked.{No, Asked, first_no}
 use Rattle.questions.specs.Memory.{Room, is_one_of, before_use}
-use Rattle.questions.specs.Record.{Record, record_asks, dec_record, record_fault}
+use Rattle.questions.specs.Record.{Record, record_asks, dec_record, record_fault, number_in, place_in}
 use Rattle.questions.specs.Call.{Call, Question, Replay, place}
-use Rattle.questions.specs.Laws.Asked.{Each, none_of, not_one, all, each_by, first_asked}
+use Rattle.questions.specs.Laws.Asked.{Each, Asks, none_of, not_one, all, each_by, first_asked}
 
 -- the numbers that ask about lent memory, and about plans
 abbrev of_memory : List ℕ
@@ -26,7 +28,7 @@ some q e = let z : No (q ≡ 0) = eqb-false q 0 e in omega arith
 
 module _ {X A : Type 0} (c : Call X A) (m : Room) where
   -- every other number asks about plans and record alone
-  pub replay_each : (qs : List ℕ) → all (none_of of_memory) qs ≡ true → Each (λ q. (1 ≤ q) × (Replay c q → Question c m Yes q) × (No (Replay c q) → Question c m No q)) qs
+  pub replay_each : (qs : List ℕ) → all (none_of of_memory) qs ≡ true → Each (Asks (Question c m) (Replay c)) qs
   replay_each = each_by (none_of of_memory) (λ q h.
       let a = not_one 0 (8 ∷ 13 ∷ 14 ∷ 15 ∷ 16 ∷ []) q h in
       let b = not_one 8 (13 ∷ 14 ∷ 15 ∷ 16 ∷ []) q a.1 in
@@ -37,20 +39,25 @@ module _ {X A : Type 0} (c : Call X A) (m : Room) where
       (some q a.0, λ y. rw (b.0, d.0, e.0, f.0, g.0) y, λ n. rw (b.0, d.0, e.0, f.0, g.0) n))
 
   -- and every number that asks about neither, about the record alone
-  pub record_each : (qs : List ℕ) → all (none_of of_plans) qs ≡ true → Each (λ q. (Record c.task q → Replay c q) × (No (Record c.task q) → No (Replay c q))) qs
+  abbrev AsRecord : ℕ → Type 0
+  AsRecord q = (Record c.task q → Replay c q) × (No (Record c.task q) → No (Replay c q))
+
+  pub record_each : (qs : List ℕ) → all (none_of of_plans) qs ≡ true → Each AsRecord qs
   record_each = each_by (none_of of_plans) (λ q h.
       let a = not_one 10 (11 ∷ 12 ∷ []) q h in
       let b = not_one 11 (12 ∷ []) q a.1 in
       let d = not_one 12 [] q b.1 in
       (λ y. rw (a.0, b.0, d.0) y, λ n. rw (a.0, b.0, d.0) n))
 
-  pub record_asked : {Refused : ℕ → Type 0} {Done : Type 0} {qs : List ℕ} → (record_fault c.task ≡ 0 → Asked (Question c m) Refused Done qs) → ((q : ℕ) → record_fault c.task ≡ q → 1 ≤ q → Refused q)
+  pub record_asked : {Refused : ℕ → Type 0} {Done : Type 0} {qs : List ℕ}
+      → (record_fault c.task ≡ 0 → Asked (Question c m) Refused Done qs) → ((q : ℕ) → record_fault c.task ≡ q → 1 ≤ q → Refused q)
       → Asked (Question c m) Refused Done (record_asks ++ qs)
   unfolding record_fault
-  record_asked = first_asked {Question = Question c m} (dec_record c.task) record_asks (each_both record_asks (replay_each record_asks refl) (record_each record_asks refl))
+  record_asked =
+      first_asked {Question = Question c m} (dec_record c.task) record_asks
+      (each_both record_asks (replay_each record_asks refl) (record_each record_asks refl))
     where
-      each_both : (qs : List ℕ) → Each (λ q. (1 ≤ q) × (Replay c q → Question c m Yes q) × (No (Replay c q) → Question c m No q)) qs → Each (λ q. (Record c.task q → Replay c q) × (No (Record c.task q) → No (Replay c q))) qs
-          → Each (λ q. (1 ≤ q) × (Record c.task q → Question c m Yes q) × (No (Record c.task q) → Question c m No q)) qs
+      each_both : (qs : List ℕ) → Each (Asks (Question c m) (Replay c)) qs → Each AsRecord qs → Each (Asks (Question c m) (Record c.task)) qs
       each_both [] a b = tt
       each_both (q ∷ qs) a b = ((a.0.0, λ y. a.0.1 (b.0.0 y), λ n. a.0.2 (b.0.1 n)), each_both qs a.1 b.1)
 
@@ -63,13 +70,11 @@ pub record_invalid : (t : Task) → (Valid t → ⊥) → 9 ≡ record_fault t
 unfolding record_fault first_no dec_record dec_chosen
 record_invalid t n = sym (asked_no (dec_valid t) n 9 0)
 
--- a record that gets yes to all its questions is valid
-pub fault_valid : (t : Task) → record_fault t ≡ 0 → Valid t
-fault_valid t e = of (dec_valid t)
-  where
-    of : Dec (Valid t) → Valid t
-    of (yes v) = v
-    of (no n) = absurd (omega (arith, record_invalid t n))
+-- what the verdict says where the task is valid, and where it is not
+pub verdict : (t : Task) (o : Option Task) → MatchOption o (Valid t → ⊥) (λ v. (v ≡ t) × Valid t)
+    → (number_in (ok_or o InvalidTask) ≡ record_fault t) × (place_in (ok_or o InvalidTask) ≡ 0)
+verdict t (Some v) m = (record_valid t m.1, refl)
+verdict t None n = (record_invalid t n, refl)
 
 -- the number of a record's fault is that of a question asked before the working slices are used, and it has no place
 module _ (t : Task) (q : ℕ) (e : record_fault t ≡ q) (some : 1 ≤ q) where

@@ -1,28 +1,27 @@
 -- Question 8, slice by slice.
-use Rattle.std.specs.Prelude.{◌≡◌, refl, ℕ, ◌+◌, ◌≤◌, ◌<◌, min, length, get_or, drop}
-use Rattle.std.proofs.Common.{ap, add-one, drop-cons, ⊎_elim, arith}
+use Rattle.std.specs.Prelude.{◌≡◌, refl, ℕ, ◌≤◌, ◌<◌, min, All}
+use Rattle.std.proofs.Common.{⊎_elim, arith}
+use Rattle.std.proofs.lemmas.List.Elements.{All-nil, All-cons, All-head, All-tail}
 use Rattle.std.proofs.Math.Logic.Dec
 use mathlib.Core.List.Memᴰ
 use mathlib.Core.List.{List, [], ◌∷◌, Memᴰ}
-use Rattle.std.proofs.Math.Seq.{drop-length}
 use Rattle.std.proofs.Math.Decide.{dec_le}
-use Rattle.strips.specs.Laws.Decision.{asked_yes, asked_no, asked_either}
+use Rattle.strips.specs.Laws.Decision.{asked_either}
 use Rattle.search.specs.Limits.{max_places}
 use Rattle.questions.specs.Size.{SizesAllowed, shortest, capacity}
 
--- a loop over the slices that has come to slice i
-module _ (sizes : List ℕ) (i : ℕ) (h : i < length sizes) where
-  pub size_wrong : ((1 ≤ get_or sizes i 0) × (get_or sizes i 0 ≤ max_places) → ⊥) → capacity (drop i sizes) ≡ 0
-  unfolding capacity
-  size_wrong out = rw (drop-cons sizes i 0 h) (asked_no (Dec.and (dec_le 1 (get_or sizes i 0)) (dec_le (get_or sizes i 0) max_places)) out 0 _)
+-- each size, by its place
+abbrev pub Allowed : ℕ → Type 0
+Allowed n = (1 ≤ n) × (n ≤ max_places)
 
-  pub size_right : (1 ≤ get_or sizes i 0) × (get_or sizes i 0 ≤ max_places) → capacity (drop i sizes) ≡ min (get_or sizes i 0) (capacity (drop (i + 1) sizes))
-  unfolding capacity
-  size_right r = rw (drop-cons sizes i 0 h, add-one i) (asked_yes (Dec.and (dec_le 1 (get_or sizes i 0)) (dec_le (get_or sizes i 0) max_places)) r 0 _)
+pub all_sizes : (sizes : List ℕ) → SizesAllowed sizes → All Allowed sizes
+all_sizes [] each = All-nil Allowed
+all_sizes (n ∷ sizes) each = All-cons Allowed n sizes (each n (Memᴰ.head refl)) (all_sizes sizes (λ k m. each k (Memᴰ.tail m)))
 
-pub size_end : (sizes : List ℕ) → capacity (drop (length sizes) sizes) ≡ max_places
-unfolding capacity
-size_end sizes = ap capacity (drop-length sizes)
+pub sizes_all : (sizes : List ℕ) → All Allowed sizes → SizesAllowed sizes
+sizes_all [] all k m = absurd (Memᴰ.not-nil m)
+sizes_all (n ∷ sizes) all k m =
+    ⊎_elim (λ (e : k ≡ n). rw e (All-head Allowed n sizes all)) (sizes_all sizes (All-tail Allowed n sizes all) k) (Memᴰ.cases_cons m)
 
 -- what the number says
 data Said (sizes : List ℕ) (n : ℕ) : Type 0 where
@@ -32,7 +31,9 @@ data Said (sizes : List ℕ) (n : ℕ) : Type 0 where
 said : (sizes : List ℕ) → Said sizes (capacity sizes)
 unfolding capacity shortest
 said [] = allowed (λ n m. absurd (Memᴰ.not-nil m)) refl (omega arith)
-said (n ∷ sizes) = asked_either (Said (n ∷ sizes)) (Dec.and (dec_le 1 n) (dec_le n max_places)) (λ out. not_allowed (λ l. out (l n (Memᴰ.head refl))) refl) (λ h. both h (said sizes))
+said (n ∷ sizes) =
+    asked_either (Said (n ∷ sizes)) (Dec.and (dec_le 1 n) (dec_le n max_places))
+    (λ out. not_allowed (λ l. out (l n (Memᴰ.head refl))) refl) (λ h. both h (said sizes))
   where
     both : (1 ≤ n) × (n ≤ max_places) → {k : ℕ} → Said sizes k → Said (n ∷ sizes) (min n k)
     both h (allowed each f g) = allowed (λ x w. ⊎_elim (λ (q : x ≡ n). rw q h) (λ (q : Memᴰ x sizes). each x q) (Memᴰ.cases_cons w)) (omega arith) (omega arith)
@@ -63,10 +64,3 @@ pub shortest_small : (sizes : List ℕ) → shortest sizes ≤ max_places
 unfolding shortest
 shortest_small [] = omega arith
 shortest_small (k ∷ sizes) = omega (arith, shortest_small sizes)
-
-pub capacity_small : (sizes : List ℕ) → capacity sizes ≤ max_places
-capacity_small sizes = of (said sizes)
-  where
-    of : {n : ℕ} → Said sizes n → n ≤ max_places
-    of (allowed each f g) = omega (arith, shortest_small sizes)
-    of (not_allowed out f) = omega arith

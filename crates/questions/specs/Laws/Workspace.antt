@@ -14,7 +14,12 @@ from_to b a = record { before = b; after = a }
 
 -- other rows in the same slice
 abbrev pub with_rows : Workspace → List (List ℕ) → Workspace
-with_rows w R = record { states = w.states; index = w.index; links = w.links; rows = record { ref_ptr = w.rows.ref_ptr; ghost_name = w.rows.ghost_name; now = R } }
+with_rows w R = record {
+  states = w.states;
+  index = w.index;
+  links = w.links;
+  rows = record { ref_ptr = w.rows.ref_ptr; ghost_name = w.rows.ghost_name; now = R };
+}
 
 pub same_slices : (w : Workspace) → SameSlices (from_to w w)
 same_slices w = record {

@@ -12,9 +12,14 @@ pub returns-in_default : goal.returns-in_default
 returns-in_default c = rw (c.in_ok-row.was, c.in_default.is) (none_answered _)
 
 pub returns-then-plan-steps : goal.returns-then-plan-steps
-returns-then-plan-steps c = rw (c.in_ok-row.was, c.in-Some.is) (plan_refused _ _ (ap (λ k. k - 1) c.get-key.ensures) _ (omega (arith, c.if-plan-steps.true, c.steps_of_key-steps.ensures)))
+returns-then-plan-steps c =
+    let key = ap (λ k. k - 1) c.get-key.ensures in
+    rw (c.in_ok-row.was, c.in-Some.is) (plan_refused _ _ key _ (omega (arith, c.if-plan-steps.true, c.steps_of_key-steps.ensures)))
 
 pub returns : goal.returns
 returns c =
+    let key = ap (λ k. k - 1) c.get-key.ensures in
     let written = c.write_plan.ensures in
-    rw (c.in_ok-row.was, c.in-Some.is, c.cost_of_key.ensures, c.steps_of_key-steps.ensures) (plan_written _ _ (ap (λ k. k - 1) c.get-key.ensures) _ (omega (arith, c.if-plan-steps.false, c.steps_of_key-steps.ensures)) written.0 written.1)
+    let steps = c.steps_of_key-steps.ensures in
+    rw (c.in_ok-row.was, c.in-Some.is, c.cost_of_key.ensures, steps)
+    (plan_written _ _ key _ (omega (arith, c.if-plan-steps.false, steps)) written.0 written.1)
