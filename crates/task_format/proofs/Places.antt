@@ -21,13 +21,15 @@ unfolding split
 lines_few [] = omega arith
 lines_few (b ∷ t) =
     let rest = split newline [] t in
-    by_test (λ (ls : List (List ℕ)). length ls ≤ suc (length t)) (eqb b newline) ([] ∷ rest) (push b rest) (λ _. omega (arith, lines_few t)) (λ _. omega (arith, lines_few t, push_few b rest))
+    by_test (λ (ls : List (List ℕ)). length ls ≤ suc (length t)) (eqb b newline) ([] ∷ rest) (push b rest)
+    (λ _. omega (arith, lines_few t)) (λ _. omega (arith, lines_few t, push_few b rest))
 
 -- what holds of the refusals at the lines of a text and of a task that is accepted holds of what the lines say
 follow_cases : (Q : Read → Type 0) (most : ℕ) → ((q place : ℕ) → (q ≡ 0 → ⊥) → place ≤ most → Q (refused q place)) → ((t : Task) → Q (accepted t))
     → (ls : List (List ℕ)) (n : ℕ) (t : Task) → n + length ls ≤ most → Q (follow ls n t)
 unfolding follow judged
-follow_cases Q most no_more all_read [] n t h = asked_either Q (dec_at_most (suc (last_line t)) n) (λ _. no_more 2 n (λ e. omega arith) (omega arith)) (λ _. all_read t)
+follow_cases Q most no_more all_read [] n t h =
+    asked_either Q (dec_at_most (suc (last_line t)) n) (λ _. no_more 2 n (λ e. omega arith) (omega arith)) (λ _. all_read t)
 follow_cases Q most no_more all_read (l ∷ ls) n t h =
     let kind = kind_of t.facts n in
     let v = drop (length (key_of n)) l in
@@ -37,7 +39,8 @@ follow_cases Q most no_more all_read (l ∷ ls) n t h =
     follow_cases Q most no_more all_read ls (n + 1) (stored t n (content kind v)) (omega arith))))
 
 -- the same of what a text says: a refusal's place is a line of the text or the one behind its last
-parse_cases : (Q : Read → Type 0) → ((q place : ℕ) → (q ≡ 0 → ⊥) → place ≤ max_text + 1 → Q (refused q place)) → ((t : Task) → Q (accepted t)) → (text : List ℕ) → Q (parse text)
+parse_cases : (Q : Read → Type 0) → ((q place : ℕ) → (q ≡ 0 → ⊥) → place ≤ max_text + 1 → Q (refused q place)) → ((t : Task) → Q (accepted t))
+    → (text : List ℕ) → Q (parse text)
 unfolding parse
 parse_cases Q no_more all_read text =
     asked_either Q (dec_at_most (length text) max_text) (λ _. no_more 1 0 (λ e. omega arith) (omega arith))

@@ -95,12 +95,16 @@ action_field t i r =
     (part_of (get_or t.leader i idle) r)
     (part_of (get_or t.follower (i - t.leader_count) idle) r)
 
+-- the record of these fields, in their order
+abbrev pub task_of : (facts initial goal leader_count follower_count : ℕ) (leader follower : List Action) → Task
+task_of f x g l m leader follower = record { facts = f; initial = x; goal = g; leader_count = l; follower_count = m; leader = leader; follower = follower }
+
 unfoldable pub with_action : Task → ℕ → ℕ → ℕ → Task
 with_action t i r x =
     let j = i - t.leader_count in
     pick (ltb i t.leader_count)
-    (record { facts = t.facts; initial = t.initial; goal = t.goal; leader_count = t.leader_count; follower_count = t.follower_count; leader = set t.leader i (with_part (get_or t.leader i idle) r x); follower = t.follower })
-    (record { facts = t.facts; initial = t.initial; goal = t.goal; leader_count = t.leader_count; follower_count = t.follower_count; leader = t.leader; follower = set t.follower j (with_part (get_or t.follower j idle) r x) })
+    (task_of t.facts t.initial t.goal t.leader_count t.follower_count (set t.leader i (with_part (get_or t.leader i idle) r x)) t.follower)
+    (task_of t.facts t.initial t.goal t.leader_count t.follower_count t.leader (set t.follower j (with_part (get_or t.follower j idle) r x)))
 
 -- the number or the set that the record holds for line n
 unfoldable pub field : Task → ℕ → ℕ
@@ -115,9 +119,9 @@ field t n =
 -- the record with x in the field of line n
 unfoldable pub stored : Task → ℕ → ℕ → Task
 stored t n x =
-    pick (eqb n 1) (record { facts = x; initial = t.initial; goal = t.goal; leader_count = t.leader_count; follower_count = t.follower_count; leader = t.leader; follower = t.follower })
-    (pick (eqb n 2) (record { facts = t.facts; initial = x; goal = t.goal; leader_count = t.leader_count; follower_count = t.follower_count; leader = t.leader; follower = t.follower })
-    (pick (eqb n 3) (record { facts = t.facts; initial = t.initial; goal = x; leader_count = t.leader_count; follower_count = t.follower_count; leader = t.leader; follower = t.follower })
-    (pick (eqb n 4) (record { facts = t.facts; initial = t.initial; goal = t.goal; leader_count = x; follower_count = t.follower_count; leader = t.leader; follower = t.follower })
-    (pick (eqb n 5) (record { facts = t.facts; initial = t.initial; goal = t.goal; leader_count = t.leader_count; follower_count = x; leader = t.leader; follower = t.follower })
+    pick (eqb n 1) (task_of x t.initial t.goal t.leader_count t.follower_count t.leader t.follower)
+    (pick (eqb n 2) (task_of t.facts x t.goal t.leader_count t.follower_count t.leader t.follower)
+    (pick (eqb n 3) (task_of t.facts t.initial x t.leader_count t.follower_count t.leader t.follower)
+    (pick (eqb n 4) (task_of t.facts t.initial t.goal x t.follower_count t.leader t.follower)
+    (pick (eqb n 5) (task_of t.facts t.initial t.goal t.leader_count x t.leader t.follower)
     (with_action t (action_of n) (n % 4) x)))))

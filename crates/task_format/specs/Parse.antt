@@ -7,7 +7,7 @@ use Rattle.strips.specs.declared.Task.{Task}
 use Rattle.task_format.specs.Limits.{max_text}
 use Rattle.task_format.specs.Text.{lines, begins}
 use Rattle.task_format.specs.Value.{content}
-use Rattle.task_format.specs.Lines.{key_of, kind_of, last_line, stored}
+use Rattle.task_format.specs.Lines.{key_of, kind_of, last_line, task_of, stored}
 use Rattle.task_format.specs.Deciders.{dec_same, dec_at_most, dec_true, dec_in_form, dec_in_range, dec_ascending}
 use Rattle.task_format.specs.declared.Kind.{Kind}
 
@@ -19,7 +19,7 @@ pub record Read : Type 0 where
 
 -- the record of zeros
 unfoldable pub zeros : Task
-zeros = record { facts = 0; initial = 0; goal = 0; leader_count = 0; follower_count = 0; leader = replicate max_leader idle; follower = replicate max_follower idle }
+zeros = task_of 0 0 0 0 0 (replicate max_leader idle) (replicate max_follower idle)
 
 abbrev pub refused : ℕ → ℕ → Read
 refused number place = record { number = number; place = place; task = zeros }

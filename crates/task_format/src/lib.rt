@@ -10,7 +10,7 @@ use strips::{MAX_COST, MAX_FACTS, MAX_FOLLOWER, MAX_LEADER, Task};
 // Bytes of a text, and digits of a number.
 pub const MAX_TEXT: usize = 28_672;
 
-pub const MAX_DIGITS: u32 = 5;
+pub const MAX_DIGITS: usize = 5;
 
 // A number between two bounds, or a list of facts of which the last is given.
 #[derive(Clone, Copy)]
@@ -64,6 +64,7 @@ pub fn field_at(line: usize) -> Field
 }
 
 // The key of a line, with its "=".
+#[tactic(auto, unfolding(crate::specs::Lines::key_of, crate::specs::Lines::action_key))]
 pub fn key_of(line: usize) -> &'static [u8]
     ensures { result.now ≡ key_of line }
 {
@@ -81,6 +82,7 @@ pub fn key_of(line: usize) -> &'static [u8]
 }
 
 // The kind of the value at a line, in a file with so many facts.
+#[tactic(auto, unfolding(crate::specs::Lines::kind_of))]
 pub fn kind_of(line: usize, facts: u32) -> Kind
     ensures { result ≡ kind_of facts line }
 {

@@ -22,7 +22,7 @@ fn store_part(action: &mut Action, part: Part, x: u64)
 }
 
 // Stores x in a field of the action numbered i, leader before follower.
-#[tactic(auto, using(crate::specs::Laws::Fields::leader_part, crate::specs::Laws::Fields::follower_part))]
+#[tactic(auto, unfolding(task_format::specs::Lines::with_action))]
 fn store_action(task: &mut Task, i: usize, part: Part, x: u64)
     requires { Room task.old i × (remainder part ≡ 2 → x ≤ max_cost) }
     ensures { task.new ≡ with_action task.old i (remainder part) x }
@@ -35,7 +35,7 @@ fn store_action(task: &mut Task, i: usize, part: Part, x: u64)
 }
 
 // Stores x in the field of a line.
-#[tactic(auto, unfolding(task_format::specs::Lines::stored))]
+#[tactic(auto, unfolding(task_format::specs::Lines::stored, task_format::specs::Lines::kind_of))]
 pub fn store(task: &mut Task, line: usize, x: u64)
     requires { Storable task.old line x }
     ensures { task.new ≡ stored task.old line x }

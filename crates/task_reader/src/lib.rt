@@ -14,6 +14,7 @@ use strips::Task;
 use task_format::MAX_TEXT;
 
 // The task that a text says, or the first question that gets no.
+#[tactic(auto, using(task_format::specs::Laws::Parse::parse_long, task_format::specs::Laws::Parse::parse_lines))]
 pub fn read(text: &[u8]) -> Result<Task, Refusal>
     ensures { returned result ≡ parse text.now }
 {

@@ -6,31 +6,31 @@ mod lines;
 mod numbers;
 
 ghost use Rattle.std.specs.Prelude.{◌≡◌, ◌≤◌, length};
-ghost use Rattle.strips.specs.Task.{Valid};
 ghost use Rattle.task_format.specs.Render.{render};
-ghost use Rattle.task_writer.specs.Written.{over, Wrote, WroteValid};
+ghost use Rattle.task_writer.specs.Written.{over, Wrote};
 
 use lines::put_lines;
 use outcome::Refusal;
-use strips::{Task, is_valid};
+use strips::{Task, ValidTask};
 use task_format::MAX_TEXT;
 use text_output::put_in;
 
 // The text of a valid task at the front of a slice, and how many bytes it has.
 #[tactic(auto, using(text_output::specs::Laws::Puts::put_over))]
-fn write_text(task: Task, text: &mut [u8]) -> usize
-    requires { Valid task × (length (render task) ≤ length text.old) }
+fn write_text(task: ValidTask, text: &mut [u8]) -> usize
+    requires { length (render task) ≤ length text.old }
     ensures bytes { result ≡ length (render task) }
     ensures text { text.new ≡ over (render task) text.old }
 {
     put_in(text, |out| put_lines(out, task))
 }
 
-// Question 16 of a valid task. The text is made first, in bytes of its own: where it does not fit, nothing lent is written.
-fn write_valid(task: Task, out: &mut [u8]) -> Result<usize, Refusal>
-    requires { Valid task }
-    ensures { WroteValid task out.old out.new result }
+// The text of a task in the first bytes of `out`, and how many they are, or the question that got no. After a refusal `out` is as it was.
+pub fn write(task: Task, out: &mut [u8]) -> Result<usize, Refusal>
+    ensures { Wrote task out.old out.new result }
 {
+    let task = ValidTask::new(task).ok_or(Refusal::InvalidTask)?;
+    // The text is made first, in bytes of its own: where it does not fit, nothing lent is written.
     let mut text = [0u8; MAX_TEXT];
     let n = write_text(task, &mut text);
     if out.len() < n {
@@ -38,14 +38,4 @@ fn write_valid(task: Task, out: &mut [u8]) -> Result<usize, Refusal>
     }
     out[..n].copy_from_slice(&text[..n]);
     Ok(n)
-}
-
-// The text of a task in the first bytes of `out`, and how many they are, or the question that got no. After a refusal `out` is as it was.
-pub fn write(task: Task, out: &mut [u8]) -> Result<usize, Refusal>
-    ensures { Wrote task out.old out.new result }
-{
-    if !is_valid(task) {
-        return Err(Refusal::InvalidTask);
-    }
-    write_valid(task, out)
 }

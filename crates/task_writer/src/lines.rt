@@ -1,6 +1,5 @@
 // The lines of a task, written.
 ghost use Rattle.std.specs.Prelude.{◌≤◌};
-ghost use Rattle.strips.specs.Task.{Valid};
 ghost use Rattle.task_format.specs.Lines.{last_line};
 ghost use Rattle.task_format.specs.Render.{value_text, render};
 ghost use Rattle.task_format.specs.Value.{OfKind, Modest};
@@ -9,7 +8,7 @@ ghost use Rattle.task_writer.specs.Puts.{ended_line};
 
 use crate::fields::field_of;
 use crate::numbers::put_list;
-use strips::Task;
+use strips::ValidTask;
 use task_format::{Kind, key_of, kind_of, last_line};
 use text_output::Output;
 
@@ -24,21 +23,22 @@ fn put_value(out: &mut Output<'_>, kind: Kind, x: u64)
     }
 }
 
-fn put_line(out: &mut Output<'_>, task: Task, line: usize)
-    requires { Valid task × (1 ≤ line) × (line ≤ last_line task) × HasRoom (ended_line task line) out.old }
+fn put_line(out: &mut Output<'_>, task: ValidTask, line: usize)
+    requires { (1 ≤ line) × (line ≤ last_line task) × HasRoom (ended_line task line) out.old }
     ensures { Puts (ended_line task line) out.old out.new }
 {
+    let task = task.task();
     out.put_bytes(key_of(line));
-    put_value(out, kind_of(line, task.facts), field_of(task, line));
+    put_value(out, kind_of(line, task.facts), field_of(*task, line));
     out.put_byte(b'\n');
 }
 
 // The text of a valid task.
-pub fn put_lines(out: &mut Output<'_>, task: Task)
-    requires { Valid task × HasRoom (render task) out.old }
+pub fn put_lines(out: &mut Output<'_>, task: ValidTask)
+    requires { HasRoom (render task) out.old }
     ensures { Puts (render task) out.old out.new }
 {
-    for line in 1..=last_line(task) {
+    for line in 1..=last_line(*task.task()) {
         put_line(out, task, line);
     }
 }

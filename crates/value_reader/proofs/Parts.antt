@@ -12,7 +12,8 @@ use denote.Ref.{Bor}
 use Rattle.task_format.specs.Text.{comma, parts}
 use Rattle.value_reader.specs.Laws.Answered.{parts_split}
 
-module _ {F : Type 0} (g : Mut F (Bor ℕ × Unit {0}) Bool) (v : List ℕ) (s : _) (xs : List (Bor (List ℕ))) (t : _) (y : Yields (slice.split_steps g) s xs t) (r : Option (Bor (List ℕ))) (u : _)
+module _ {F : Type 0} (g : Mut F (Bor ℕ × Unit {0}) Bool) (v : List ℕ) (s : _) (xs : List (Bor (List ℕ))) (t : _)
+    (y : Yields (slice.split_steps g) s xs t) (r : Option (Bor (List ℕ))) (u : _)
     (step : slice.split_steps g t r u) (rest : slice.split_rest s ≡ v) (begun : slice.split_done s ≡ false)
     (test : (x : ℕ) (b : Bool) (q : F) → CalledAt g (slice.split_callee s) x b q → (q ≡ slice.split_callee s) × (b ≡ eqb x comma)) where
   road : YieldsList (slice.split_steps g) (λ x. x.now) s (parts v)

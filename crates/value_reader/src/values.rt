@@ -13,7 +13,7 @@ fn number(bytes: &[u8]) -> Option<u32>
     ensures some { IfSome result (λ n. IsNumber bytes.now × (n ≡ decimal bytes.now)) }
     ensures none { IfNone result (IsNumber bytes.now → ⊥) }
 {
-    if bytes.is_empty() || (MAX_DIGITS as usize) < bytes.len() {
+    if bytes.is_empty() || MAX_DIGITS < bytes.len() {
         return None;
     }
     if bytes[0] == b'0' && bytes.len() != 1 {

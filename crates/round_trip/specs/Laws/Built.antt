@@ -44,7 +44,12 @@ pub built_zeros : Built 1 zeros
 unfolding zeros
 built_zeros =
     record {
-      tame = record { leader = length-replicate max_leader idle; follower = length-replicate max_follower idle; leader_idle = λ i _. all_idle max_leader i; follower_idle = λ i _. all_idle max_follower i };
+      tame = record {
+        leader = length-replicate max_leader idle;
+        follower = length-replicate max_follower idle;
+        leader_idle = λ i _. all_idle max_leader i;
+        follower_idle = λ i _. all_idle max_follower i;
+      };
       holds = λ j a b. absurd (omega arith);
     }
 
@@ -68,7 +73,8 @@ module _ (g : Task) (n : ℕ) (l : n ≤ last_line g) (b : Built n g) where
       record {
         leader = length-set g.leader (action_of n) _ ∙ t.leader;
         follower = t.follower;
-        leader_idle = λ i c. let m = c (omega arith) in get_or-set_other g.leader (action_of n) i _ idle (λ z. absurd (omega (arith, z, u, m))) ∙ t.leader_idle i (λ _. m);
+        leader_idle = λ i c. let m = c (omega arith) in
+            get_or-set_other g.leader (action_of n) i _ idle (λ z. absurd (omega (arith, z, u, m))) ∙ t.leader_idle i (λ _. m);
         follower_idle = λ i c. t.follower_idle i (λ _. c (omega arith));
       })
       (λ q.
@@ -77,7 +83,8 @@ module _ (g : Task) (n : ℕ) (l : n ≤ last_line g) (b : Built n g) where
         leader = t.leader;
         follower = length-set g.follower (action_of n - g.leader_count) _ ∙ t.follower;
         leader_idle = λ i c. t.leader_idle i (λ _. c (omega arith));
-        follower_idle = λ i c. let m = c (omega arith) in get_or-set_other g.follower (action_of n - g.leader_count) i _ idle (λ z. absurd (omega (arith, z, u, m))) ∙ t.follower_idle i (λ _. m);
+        follower_idle = λ i c. let m = c (omega arith) in
+            get_or-set_other g.follower (action_of n - g.leader_count) i _ idle (λ z. absurd (omega (arith, z, u, m))) ∙ t.follower_idle i (λ _. m);
       })
 
 -- the arrays of a record before line 6
@@ -116,7 +123,8 @@ module _ (g : Task) (n x : ℕ) (o : 1 ≤ n) (l : n ≤ last_line g) (b : Built
       subst (λ (q : Kind). OfKind q (field (stored g n x) j)) (sym k)
       (either (eqb j n)
       (λ e. let d = eqb-true j n e in
-      subst (λ (i : ℕ). OfKind (kind_of g.facts i) (field (stored g n x) i)) (sym d) (subst (OfKind (kind_of g.facts n)) (sym (found_field g x n o (place g n l b))) h))
+      subst (λ (i : ℕ). OfKind (kind_of g.facts i) (field (stored g n x) i)) (sym d)
+      (subst (OfKind (kind_of g.facts n)) (sym (found_field g x n o (place g n l b))) h))
       (λ e. let d : j < n = omega (arith, eqb-false j n e) in
       subst (OfKind (kind_of g.facts j)) (sym (kept_field g x n o j a d (place g n l b))) (b.holds j a d)))
 
@@ -153,7 +161,8 @@ follower_at g i r h =
     field_at g (g.leader_count + i) r h ∙ rw (le-ltb (g.leader_count + i) g.leader_count (omega arith), e) refl
 
 module _ (t : Task) (b : Built (last_line t + 1) t) where
-  part_holds : (i r : ℕ) → r < 4 → i < t.leader_count + t.follower_count → OfKind (pick (eqb r 2) (Number 0 max_cost) (FactList t.facts)) (field t (line_of i r))
+  part_holds : (i r : ℕ) → r < 4 → i < t.leader_count + t.follower_count
+      → OfKind (pick (eqb r 2) (Number 0 max_cost) (FactList t.facts)) (field t (line_of i r))
   part_holds i r h l =
       let e : line_of i r % 4 ≡ r = omega arith in
       subst (λ (k : Kind). OfKind k (field t (line_of i r)))
@@ -214,15 +223,19 @@ module _ (g t : Task) (v : Valid t) (m : Tame (last_line t + 1) g) (a : Agree (l
       (λ i l. either (ltb i t.leader_count)
       (λ q. let k = ltb-true i t.leader_count q in
       action_same _ _ (λ r h. sym (leader_at g i r h (omega (arith, count))) ∙ a (line_of i r) (omega arith) (omega arith) ∙ leader_at t i r h k))
-      (λ q. let k = ltb-false i t.leader_count q in m.leader_idle i (λ _. omega (arith, count)) ∙ sym (v.leader.unused i k (omega (arith, m.leader)))))
+      (λ q. let k = ltb-false i t.leader_count q in
+      m.leader_idle i (λ _. omega (arith, count)) ∙ sym (v.leader.unused i k (omega (arith, m.leader)))))
 
   follower_same : g.follower ≡ t.follower
   follower_same =
       ext_get_or idle g.follower t.follower (m.follower ∙ sym v.follower.long)
       (λ i l. either (ltb i t.follower_count)
       (λ q. let k = ltb-true i t.follower_count q in
-      action_same _ _ (λ r h. sym (follower_at g i r h) ∙ ap (λ (x : ℕ). field g (line_of (x + i) r)) count ∙ a (line_of (t.leader_count + i) r) (omega arith) (omega arith) ∙ follower_at t i r h))
-      (λ q. let k = ltb-false i t.follower_count q in m.follower_idle i (λ _. omega (arith, count_follower)) ∙ sym (v.follower.unused i k (omega (arith, m.follower)))))
+      action_same _ _ (λ r h.
+      sym (follower_at g i r h) ∙ ap (λ (x : ℕ). field g (line_of (x + i) r)) count
+      ∙ a (line_of (t.leader_count + i) r) (omega arith) (omega arith) ∙ follower_at t i r h))
+      (λ q. let k = ltb-false i t.follower_count q in
+      m.follower_idle i (λ _. omega (arith, count_follower)) ∙ sym (v.follower.unused i k (omega (arith, m.follower)))))
 
   pub task_same : g ≡ t
   unfolding field

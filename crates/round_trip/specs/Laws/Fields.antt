@@ -52,9 +52,13 @@ found_action : (g : Task) (i r x : ℕ) → Place g i → r < 4 → action_field
 unfolding action_field with_action
 found_action g i r x p h =
     either (ltb i g.leader_count)
-    (λ q. rw (q, q, get_or-set_same g.leader i (with_part (get_or g.leader i idle) r x) idle (omega (arith, ltb-true i g.leader_count q, p.leader, p.few))) (part_same (get_or g.leader i idle) x r h))
+    (λ q. let a = get_or g.leader i idle in
+    let m : i < length g.leader = omega (arith, ltb-true i g.leader_count q, p.leader, p.few) in
+    rw (q, q, get_or-set_same g.leader i (with_part a r x) idle m) (part_same a x r h))
     (λ q. let j = i - g.leader_count in
-    rw (q, q, get_or-set_same g.follower j (with_part (get_or g.follower j idle) r x) idle (omega (arith, ltb-false i g.leader_count q, p.follower, p.below))) (part_same (get_or g.follower j idle) x r h))
+    let a = get_or g.follower j idle in
+    let m : j < length g.follower = omega (arith, ltb-false i g.leader_count q, p.follower, p.below) in
+    rw (q, q, get_or-set_same g.follower j (with_part a r x) idle m) (part_same a x r h))
 
 -- one array, with a part set at i
 set_part : (l : List Action) (i r x j q : ℕ) → i < length l → r < 4 → q < 4 → (j ≡ i → q ≡ r → ⊥)
@@ -106,8 +110,10 @@ kept_field g x =
     let Q : ℕ → ℕ → Type 0 = λ n j. j < n → (6 ≤ n → Place g (action_of n)) → field (stored g n x) j ≡ field g j in
     by_line (λ n. (j : ℕ) → 1 ≤ j → Q n j)
     (λ j h l p. absurd (omega arith))
-    (by_line (Q 2) (λ _ _. refl) (λ l p. absurd (omega arith)) (λ l p. absurd (omega arith)) (λ l p. absurd (omega arith)) (λ l p. absurd (omega arith)) (λ j h l p. absurd (omega arith)))
-    (by_line (Q 3) (λ _ _. refl) (λ _ _. refl) (λ l p. absurd (omega arith)) (λ l p. absurd (omega arith)) (λ l p. absurd (omega arith)) (λ j h l p. absurd (omega arith)))
+    (by_line (Q 2) (λ _ _. refl) (λ l p. absurd (omega arith)) (λ l p. absurd (omega arith)) (λ l p. absurd (omega arith))
+    (λ l p. absurd (omega arith)) (λ j h l p. absurd (omega arith)))
+    (by_line (Q 3) (λ _ _. refl) (λ _ _. refl) (λ l p. absurd (omega arith)) (λ l p. absurd (omega arith))
+    (λ l p. absurd (omega arith)) (λ j h l p. absurd (omega arith)))
     (by_line (Q 4) (λ _ _. refl) (λ _ _. refl) (λ _ _. refl) (λ l p. absurd (omega arith)) (λ l p. absurd (omega arith)) (λ j h l p. absurd (omega arith)))
     (by_line (Q 5) (λ _ _. refl) (λ _ _. refl) (λ _ _. refl) (λ _ _. refl) (λ l p. absurd (omega arith)) (λ j h l p. absurd (omega arith)))
     (λ n h. let k = head_kept g (action_of n) (n % 4) x in let s = stored_rest n (other n h) g x in

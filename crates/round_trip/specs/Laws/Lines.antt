@@ -91,7 +91,8 @@ module _ (t : Task) (v : Valid t) where
       (λ q. let l = ltb-true 5 n q in omega (arith, a 4 (omega arith) (omega arith), a 5 (omega arith) (omega arith)))
       (λ q. let l = ltb-false 5 n q in omega arith)
 
-  turn : (n : ℕ) (g : Task) (ls : List (List ℕ)) → 1 ≤ n → n ≤ last_line t → Agree n g t → follow (line_text t n ∷ ls) n g ≡ follow ls (n + 1) (stored g n (field t n))
+  turn : (n : ℕ) (g : Task) (ls : List (List ℕ)) → 1 ≤ n → n ≤ last_line t → Agree n g t
+      → follow (line_text t n ∷ ls) n g ≡ follow ls (n + 1) (stored g n (field t n))
   unfolding line_text
   turn n g ls h l a =
       let kind = kind_of t.facts n in
@@ -126,8 +127,9 @@ module _ (t : Task) (v : Valid t) where
   follow_bodies (suc k) n g h e b a =
       let l : n ≤ last_line t = omega arith in
       let d = due_agree n g a l in
+      let next = built_stored g n (field t n) h d b (holds_next n g h l a) in
       turn n g (bodies k (n + 1) t) h l a
-      ∙ follow_bodies k (n + 1) (stored g n (field t n)) (omega arith) (omega arith) (built_stored g n (field t n) h d b (holds_next n g h l a)) (agree_next n g h l b a)
+      ∙ follow_bodies k (n + 1) (stored g n (field t n)) (omega arith) (omega arith) next (agree_next n g h l b a)
 
 -- ---- no other lines are
 
@@ -217,5 +219,5 @@ only (l ∷ ls) n g t h u b e =
     let kind = kind_of g.facts n in
     let v = drop (length (key_of n)) l in
     let d = due_stored g (content kind v) n h k.due in
-    only_next n g t l ls h b k
-    (only ls (n + 1) (stored g n (content kind v)) t (omega arith) (omega arith) (built_stored g n (content kind v) h k.due b (fine_holds kind v k.fine)) k.next)
+    let next = built_stored g n (content kind v) h k.due b (fine_holds kind v k.fine) in
+    only_next n g t l ls h b k (only ls (n + 1) (stored g n (content kind v)) t (omega arith) (omega arith) next k.next)

@@ -40,14 +40,22 @@ full_places n =
     record {
       long = length-replicate n full_action;
       room = omega arith;
-      used = λ i h. subst (Proper max_facts) (sym (get_or-replicate n i full_action idle h)) (record { cost = omega arith; precondition = omega arith; delete = omega arith; add = omega arith });
+      used = λ i h. subst (Proper max_facts) (sym (get_or-replicate n i full_action idle h))
+          (record { cost = omega arith; precondition = omega arith; delete = omega arith; add = omega arith });
       unused = λ i l h. absurd (omega arith);
     }
 
 pub full_valid : Valid full
 unfolding full all_facts
 full_valid =
-    record { some_facts = omega arith; few_facts = omega arith; initial = omega arith; goal = omega arith; leader = full_places max_leader; follower = full_places max_follower }
+    record {
+      some_facts = omega arith;
+      few_facts = omega arith;
+      initial = omega arith;
+      goal = omega arith;
+      leader = full_places max_leader;
+      follower = full_places max_follower;
+    }
 
 -- ---- its lines
 
@@ -60,8 +68,10 @@ unfolding full action_field
 full_field n h l =
     sym (field_rest n (other n h) full)
     ∙ either (ltb (action_of n) max_leader)
-    (λ q. rw q (ap (λ (a : Action). part_of a (n % 4)) (get_or-replicate max_leader (action_of n) full_action idle (ltb-true (action_of n) max_leader q))))
-    (λ q. rw q (ap (λ (a : Action). part_of a (n % 4)) (get_or-replicate max_follower (action_of n - max_leader) full_action idle (omega (arith, ltb-false (action_of n) max_leader q)))))
+    (λ q. let m = ltb-true (action_of n) max_leader q in
+    rw q (ap (λ (a : Action). part_of a (n % 4)) (get_or-replicate max_leader (action_of n) full_action idle m)))
+    (λ q. let m = ltb-false (action_of n) max_leader q in
+    rw q (ap (λ (a : Action). part_of a (n % 4)) (get_or-replicate max_follower (action_of n - max_leader) full_action idle (omega arith))))
 
 -- a line of an action, by its remainder
 part_length : (n r : ℕ) → 6 ≤ n → action_of n < 48 → n % 4 ≡ r
@@ -70,7 +80,8 @@ unfolding full
 part_length n r h l e =
     let o = other n h in
     let k : length (key_of n) ≡ length (action_key r) = ap length (sym (key_rest n o)) ∙ ap (λ (m : ℕ). length (action_key m)) e in
-    let v : length (value_text (kind_of max_facts n) (field full n)) ≡ length (value_text (pick (eqb r 2) (Number 0 max_cost) (FactList max_facts)) (part_of full_action r)) =
+    let v : length (value_text (kind_of max_facts n) (field full n))
+    ≡ length (value_text (pick (eqb r 2) (Number 0 max_cost) (FactList max_facts)) (part_of full_action r)) =
     ap (λ (q : Kind). length (value_text q (field full n))) (kind_rest n o max_facts)
     ∙ ap (λ (x : ℕ). length (value_text (pick (eqb (n % 4) 2) (Number 0 max_cost) (FactList max_facts)) x)) (full_field n h l)
     ∙ ap (λ (m : ℕ). length (value_text (pick (eqb m 2) (Number 0 max_cost) (FactList max_facts)) (part_of full_action m))) e in
@@ -80,12 +91,14 @@ cost_length : (n : ℕ) → 6 ≤ n → action_of n < 48 → n % 4 ≡ 2 → len
 unfolding full_action part_of value_text digits_of action_key
 cost_length n h l e = part_length n 2 h l e
 
-set_length : (n r : ℕ) → 6 ≤ n → action_of n < 48 → n % 4 ≡ r → length (action_key r) ≡ 6 → eqb r 2 ≡ false → part_of full_action r ≡ all_facts → length (line_text full n) ≡ 188
+set_length : (n r : ℕ) → 6 ≤ n → action_of n < 48 → n % 4 ≡ r
+    → length (action_key r) ≡ 6 → eqb r 2 ≡ false → part_of full_action r ≡ all_facts → length (line_text full n) ≡ 188
 set_length n r h l e k q p =
     part_length n r h l e ∙ rw (q, p) (omega (arith, k, list_length))
 
 -- the four lines of an action
-four_length : (k n : ℕ) → 6 ≤ n → action_of n < 48 → n % 4 ≡ 2 → length (lines_text (suc (suc (suc (suc k)))) n full) ≡ 578 + length (lines_text k (n + 1 + 1 + 1 + 1) full)
+four_length : (k n : ℕ) → 6 ≤ n → action_of n < 48 → n % 4 ≡ 2
+    → length (lines_text (suc (suc (suc (suc k)))) n full) ≡ 578 + length (lines_text k (n + 1 + 1 + 1 + 1) full)
 unfolding action_key part_of full_action
 four_length k n h l e =
     omega (

@@ -17,7 +17,12 @@ use Rattle.task_format.specs.Laws.Decimal.{digits_are, fuel}
 pub digits_number : (n : ℕ) → n < 10 ^ max_digits → IsNumber (digits n)
 digits_number n h =
     let d = digits_are 4 n h in
-    record { some = digits_some 4 n; few = digits_few 5 n; digits = d.all; plain = λ e. ap length (digits_short 5 n (omega arith) (let z = d.lead e in omega (arith, z))) }
+    record {
+      some = digits_some 4 n;
+      few = digits_few 5 n;
+      digits = d.all;
+      plain = λ e. let z = d.lead e in ap length (digits_short 5 n (omega arith) (omega (arith, z)));
+    }
 
 pub digits_say : (n : ℕ) → n < 10 ^ max_digits → decimal (digits n) ≡ n
 digits_say n h = (digits_are 4 n h).says

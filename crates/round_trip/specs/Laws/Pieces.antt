@@ -63,7 +63,10 @@ lines_ended (b ∷ t) =
     let r = lines_ended t in
     by_test (Ends (b ∷ t)) (eqb b newline) _ _
     (λ q. let e = eqb-true b newline q in
-    ⊎_elim (λ w. inl (ap (λ (x : ℕ). x ∷ t) e ∙ ap (λ (u : List ℕ). newline ∷ u) w)) (λ w. inr (ap (λ (x : ℕ). x ∷ (t ++ (newline ∷ []))) e ∙ ap (λ (u : List ℕ). newline ∷ u) w)) r)
+    ⊎_elim
+    (λ w. inl (ap (λ (x : ℕ). x ∷ t) e ∙ ap (λ (u : List ℕ). newline ∷ u) w))
+    (λ w. inr (ap (λ (x : ℕ). x ∷ (t ++ (newline ∷ []))) e ∙ ap (λ (u : List ℕ). newline ∷ u) w))
+    r)
     (λ q. pushed b t (lines t) r)
 
 -- ---- the last newline
@@ -89,7 +92,13 @@ last_of (b ∷ (a ∷ v)) h w =
     record { front = b ∷ r.front; byte = r.byte; is = ap (λ (u : List ℕ). b ∷ u) r.is; plain = r.plain }
 
 pub last_behind : (a v : List ℕ) → Last v → Last (a ++ v)
-last_behind a v l = record { front = a ++ l.front; byte = l.byte; is = ap (λ (u : List ℕ). a ++ u) l.is ∙ sym (append_assoc a l.front (l.byte ∷ [])); plain = l.plain }
+last_behind a v l =
+    record {
+      front = a ++ l.front;
+      byte = l.byte;
+      is = ap (λ (u : List ℕ). a ++ u) l.is ∙ sym (append_assoc a l.front (l.byte ∷ []));
+      plain = l.plain;
+    }
 
 -- two texts are equal where they are with one byte more
 pub cancel : (u v : List ℕ) (x : ℕ) → u ++ (x ∷ []) ≡ v ++ (x ∷ []) → u ≡ v

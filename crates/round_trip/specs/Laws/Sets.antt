@@ -115,8 +115,8 @@ facts_from (suc k) i (m ∷ ms) l r =
     let y : m - i ≡ 0 = omega arith in
     let w : 2 ^ (m - i) ≡ 1 = ap (λ (x : ℕ). 2 ^ x) y in
     let n = from_next (i + suc k - 1) i ms (rw e at r.2) in
-    odd k i _ (set_from (i + 1) ms) (omega (arith, w, n))
-    ∙ rw (facts_from k (i + 1) ms (omega arith) (subst (λ (x : ℕ). Above (i + 1 + k - 1) x ms) (e ∙ d) (subst (λ (x : ℕ). Above x m ms) b r.2))) (ap (λ (x : ℕ). x ∷ ms) (sym e)))
+    let above = subst (λ (x : ℕ). Above (i + 1 + k - 1) x ms) (e ∙ d) (subst (λ (x : ℕ). Above x m ms) b r.2) in
+    odd k i _ (set_from (i + 1) ms) (omega (arith, w, n)) ∙ rw (facts_from k (i + 1) ms (omega arith) above) (ap (λ (x : ℕ). x ∷ ms) (sym e)))
     (λ q.
     let h : i < m = omega (arith, eqb-false m i q, r.0) in
     even k i _ (set_from (i + 1) (m ∷ ms)) (from_next (i + suc k - 1) i (m ∷ ms) (h, r.1, r.2))

@@ -98,7 +98,7 @@ value_content (FactList most) x m h =
 
 all_digits : (ps : List (List ℕ)) → All IsNumber ps → ps ≡ map digits (map decimal ps)
 all_digits [] a = refl
-all_digits (p ∷ ps) a = let e = number_digits_lem p a.0 in let r = all_digits ps a.1 in ap (λ (q : List ℕ). q ∷ ps) e ∙ ap (λ (qs : List (List ℕ)). digits (decimal p) ∷ qs) r
+all_digits (p ∷ ps) a = ap (λ (q : List ℕ). q ∷ ps) (number_digits_lem p a.0) ∙ ap (λ (qs : List (List ℕ)). digits (decimal p) ∷ qs) (all_digits ps a.1)
 
 list_is : (v : List ℕ) → (v ≡ []) ⊎ All IsNumber (parts v) → v ≡ listed true (members v)
 unfolding members listed
@@ -137,7 +137,8 @@ fine kind v e = of (dec_in_form kind v) (dec_in_range kind v) (dec_ascending kin
 tail_plain : (ms : List ℕ) → Small ms → Without newline (tail (map digits ms))
 tail_plain [] s = tt
 tail_plain (m ∷ ms) s =
-    ((λ e. omega (arith, e)), all_append (λ b. b ≡ newline → ⊥) (digits m) _ (digits_without newline (omega arith) (digits m) (digits_number m s.0).digits) (tail_plain ms s.1))
+    let d = digits_without newline (omega arith) (digits m) (digits_number m s.0).digits in
+    ((λ e. omega (arith, e)), all_append (λ b. b ≡ newline → ⊥) (digits m) _ d (tail_plain ms s.1))
 
 joined_plain : (ms : List ℕ) → Small ms → Without newline (joined (map digits ms))
 joined_plain [] s = tt

@@ -40,7 +40,10 @@ module _ (t : Task) (v : Valid t) where
   action_holds i r h =
       either (ltb i t.leader_count)
       (λ e. rw e (proper_part t.facts (get_or t.leader i idle) (v.leader.used i (ltb-true i t.leader_count e)) r))
-      (λ e. rw e (let l = ltb-false i t.leader_count e in proper_part t.facts (get_or t.follower (i - t.leader_count) idle) (v.follower.used (i - t.leader_count) (omega arith)) r))
+      (λ e. rw e
+      (let l = ltb-false i t.leader_count e in
+      let j = i - t.leader_count in
+      proper_part t.facts (get_or t.follower j idle) (v.follower.used j (omega arith)) r))
 
   pub field_holds : (n : ℕ) → 1 ≤ n → n ≤ last_line t → OfKind (kind_of t.facts n) (field t n)
   unfolding kind_of field

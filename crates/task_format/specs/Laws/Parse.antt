@@ -10,7 +10,6 @@ use Rattle.task_format.specs.Text.{lines, begins}
 use Rattle.task_format.specs.Value.{InForm, InRange, Ascending, content}
 use Rattle.task_format.specs.Lines.{key_of, kind_of, last_line, stored}
 use Rattle.task_format.specs.Parse.{Read, zeros, refused, accepted, fault, judged, follow, parse}
-use Rattle.strips.specs.Laws.Choice.{never}
 use Rattle.task_format.specs.Deciders.{dec_same, dec_at_most, dec_true, dec_in_form, dec_in_range, dec_ascending}
 use Rattle.task_format.specs.declared.Kind.{Kind}
 
@@ -55,10 +54,15 @@ module _ (n : ℕ) (t : Task) where
 
     pub follow_key : n ≤ last_line t → begins (key_of n) l ≡ false → follow (l ∷ ls) n t ≡ refused 3 n
     unfolding follow
-    follow_key h e = asked_yes (dec_at_most n (last_line t)) h _ _ ∙ asked_no (dec_true (begins (key_of n) l)) (λ f. never (let g : false ≡ true = (cc) in g)) _ _
+    follow_key h e =
+        let other : begins (key_of n) l ≡ true → ⊥ = λ f. cc in
+        asked_yes (dec_at_most n (last_line t)) h _ _ ∙ asked_no (dec_true (begins (key_of n) l)) other _ _
+
+    abbrev value : List ℕ
+    value = drop (length (key_of n)) l
 
     pub follow_value : n ≤ last_line t → begins (key_of n) l ≡ true
-        → follow (l ∷ ls) n t ≡ judged (kind_of t.facts n) (drop (length (key_of n)) l) n (follow ls (n + 1) (stored t n (content (kind_of t.facts n) (drop (length (key_of n)) l))))
+        → follow (l ∷ ls) n t ≡ judged (kind_of t.facts n) value n (follow ls (n + 1) (stored t n (content (kind_of t.facts n) value)))
     unfolding follow
     follow_value h e = asked_yes (dec_at_most n (last_line t)) h _ _ ∙ asked_yes (dec_true (begins (key_of n) l)) e _ _
 

@@ -103,7 +103,8 @@ module _ (t : Task) (f : t.facts ≤ 64) where
       rw z (omega (arith, a, b))
 
   -- the first five lines
-  head_size : t.leader_count < 100 → t.follower_count < 100 → (k : ℕ) → length (lines_text (suc (suc (suc (suc (suc k))))) 1 t) ≤ 406 + length (lines_text k 6 t)
+  head_size : t.leader_count < 100 → t.follower_count < 100 → (k : ℕ)
+      → length (lines_text (suc (suc (suc (suc (suc k))))) 1 t) ≤ 406 + length (lines_text k 6 t)
   unfolding key_of kind_of field
   head_size l m k =
       omega (

@@ -1,38 +1,48 @@
 -- A text's first line, and what it adds to the record of the lines before it.
-use Rattle.std.specs.Prelude.{◌≡◌, refl, true, false, List, [], ◌∷◌, ◌++◌, ℕ, ◌+◌, ◌-◌, ◌≤◌, ◌<◌, eqb, ltb, length, take, drop, Ok, Err}
+use Rattle.std.specs.Prelude.{◌≡◌, refl, true, false, cond, Option, Some, None, MatchOption, Ok, Err}
+use Rattle.std.specs.Prelude.{List, [], ◌∷◌, ◌++◌, ℕ, ◌+◌, ◌-◌, ◌≤◌, ◌<◌, eqb, ltb, length, take, drop}
 use Rattle.std.proofs.Common.{sym, ap, ◌∙◌, arith, length-drop, take_all, drop_of_length-le}
 use Rattle.std.proofs.Math.Seq.{drop-append_seam}
+use Rattle.std.specs.Borrow.{Bor}
+use Rattle.std.specs.Cmp.Lexicographic.{pointwise}
+use Rattle.std.proofs.lemmas.Bool.Decides.{Decides-eqb}
+use Rattle.std.proofs.lemmas.Option.{MatchOption-at_some, MatchOption-at_none, cond_some}
+use Rattle.std.proofs.lemmas.Slice.Eq.{strip_prefix_is}
 use borrow.Author.Tests.{eq-eqb, eqb-true}
-use Rattle.outcome.specs.Refusal.{number_of, place_of}
+use Rattle.outcome.specs.Refusal.{number_of}
 use Rattle.outcome.specs.Laws.Refusal.{number_some}
 use Rattle.outcome.specs.declared.Refusal.{Refusal}
 use Rattle.outcome.specs.declared.Refusal.TheVariants.{LineMissing, WrongKey}
-use Rattle.strips.specs.declared.Action.{Action}
 use Rattle.strips.specs.declared.Task.{Task}
-use Rattle.strips.specs.Laws.Choice.{by_test, either, never}
+use Rattle.strips.specs.Laws.Choice.{either, never}
 use Rattle.task_format.specs.Text.{line_end, first_line, behind_line, begins, split, lines}
 use Rattle.task_format.specs.Value.{InForm, InRange, content}
-use Rattle.task_format.specs.Lines.{key_of, kind_of, last_line, stored, with_action, action_of}
+use Rattle.task_format.specs.Lines.{key_of, kind_of, last_line, stored, with_action}
 use Rattle.task_format.specs.Parse.{zeros, refused, accepted, fault, judged, follow}
 use Rattle.task_format.specs.Deciders.{dec_in_form, dec_in_range}
 use Rattle.task_format.specs.Laws.Text.{lines_first}
 use Rattle.task_format.specs.Laws.Parse.{follow_end, follow_missing, follow_over, follow_key, follow_value, judged_yes, judged_no, fault_form, fault_range}
 use Rattle.task_format.specs.declared.Kind.{Kind}
-use Rattle.task_format.specs.declared.Kind.TheVariants.{Number, FactList}
 use Rattle.value_reader.specs.Answered.{Answered}
-use Rattle.task_reader.specs.Line.{AtMost, Says, Stops, Storable, Small, OnLine}
-use Rattle.task_reader.specs.Laws.Fields.{at_most}
+use Rattle.task_reader.specs.Line.{AtMost, Says, Stops, Small, OnLine}
 
 -- ---- the first line of a text
 
 -- where the first newline is, and where none is
-pub cut_some : (t : List ℕ) (at : ℕ) → at ≡ line_end t → line_end t < length t → (take at t ≡ first_line t) × (take (length t - (at + 1)) (drop (at + 1) t) ≡ behind_line t)
-cut_some t at is h = rw is (refl, take_all (length t - (line_end t + 1)) (drop (line_end t + 1) t) (omega (arith, length-drop (line_end t + 1) t)))
+module _ (t : List ℕ) where
+  abbrev pub place : Option ℕ
+  place = cond (ltb (line_end t) (length t)) (Some (line_end t)) None
 
-pub cut_none : (t : List ℕ) → length t ≤ line_end t → (t ≡ first_line t) × (take (length t - length t) (drop (length t) t) ≡ behind_line t)
-cut_none t h =
-    let z : length t - length t ≡ 0 = omega arith in
-    (sym (take_all (line_end t) t h), rw z (sym (drop_of_length-le t {i = line_end t + 1} (omega arith))))
+  pub cut_some : (at : ℕ) → place ≡ Some at → (take at t ≡ first_line t) × (take (length t - (at + 1)) (drop (at + 1) t) ≡ behind_line t)
+  cut_some at e =
+      let is : at ≡ line_end t = sym (cond_some _ _ _ e).1 in
+      rw is (refl, take_all (length t - (line_end t + 1)) (drop (line_end t + 1) t) (omega (arith, length-drop (line_end t + 1) t)))
+
+  pub cut_none : place ≡ None → (t ≡ first_line t) × (take (length t - length t) (drop (length t) t) ≡ behind_line t)
+  cut_none e =
+      let h : length t ≤ line_end t = grind arith in
+      let z : length t - length t ≡ 0 = omega arith in
+      (sym (take_all (line_end t) t h), rw z (sym (drop_of_length-le t {i = line_end t + 1} (omega arith))))
 
 behind_short : (t : List ℕ) → (t ≡ [] → ⊥) → length (behind_line t) < length t
 behind_short [] f = absurd (f refl)
@@ -57,6 +67,16 @@ begins_split (k ∷ key) (b ∷ t) e =
 begins_not : (key t : List ℕ) → ((rest : List ℕ) → t ≡ key ++ rest → ⊥) → begins key t ≡ false
 begins_not key t f = either (begins key t) (λ e. absurd (f (drop (length key) t) (begins_split key t e))) (λ e. e)
 
+-- what is left of a line when its key is stripped, and that nothing is where the line does not begin with it
+module _ (n : ℕ) (front key : List ℕ) (is : key ≡ key_of n) (r : Option (Bor (List ℕ)))
+    (cases : MatchOption r (pointwise eqb (take (length key) front) key ≡ false)
+    (λ v. (pointwise eqb (take (length key) front) key ≡ true) × (v.now ≡ drop (length key) front) × (length v.now + length key ≡ length front))) where
+  pub key_found : {v : Bor (List ℕ)} → r ≡ Some v → front ≡ key_of n ++ v.now
+  key_found e = rw is at (MatchOption-at_some _ _ _ e (strip_prefix_is Decides-eqb front key r cases))
+
+  pub key_missing : r ≡ None → (rest : List ℕ) → front ≡ key_of n ++ rest → ⊥
+  key_missing e = rw is at (MatchOption-at_none _ _ e (strip_prefix_is Decides-eqb front key r cases))
+
 -- ---- a value that no question refuses
 
 in_range : (kind : Kind) (v : List ℕ) → fault kind v ≡ 0 → InRange kind v
@@ -69,8 +89,7 @@ in_range kind v e = of (dec_in_form kind v) (dec_in_range kind v)
 
 content_small : (kind : Kind) (v : List ℕ) → InRange kind v → AtMost kind (content kind v)
 unfolding InRange content
-content_small (Number low high) v r = r.1
-content_small (FactList most) v r = tt
+content_small kind v r = grind arith
 
 -- ---- the questions at a line that is due
 
@@ -81,10 +100,13 @@ module _ (facts n : ℕ) (text : List ℕ) where
 
   module _ (some : text ≡ [] → ⊥) (front : List ℕ) (is : front ≡ first_line text) where
     pub stops_key : ((rest : List ℕ) → front ≡ key_of n ++ rest → ⊥) → Stops facts n text (WrongKey n)
-    stops_key h t f d = ap (λ ls. follow ls n t) (lines_first text some) ∙ follow_key n t (first_line text) (lines (behind_line text)) d (rw (← is) (begins_not (key_of n) front h))
+    stops_key h t f d =
+        let other : begins (key_of n) (first_line text) ≡ false = rw (← is) (begins_not (key_of n) front h) in
+        ap (λ ls. follow ls n t) (lines_first text some) ∙ follow_key n t (first_line text) (lines (behind_line text)) d other
 
     module _ (v : List ℕ) (key : front ≡ key_of n ++ v) (rest : List ℕ) (others : rest ≡ behind_line text) where
-      line : (t : Task) → t.facts ≡ facts → n ≤ last_line t → follow (lines text) n t ≡ judged (kind_of facts n) v n (follow (lines rest) (n + 1) (stored t n (content (kind_of facts n) v)))
+      line : (t : Task) → t.facts ≡ facts → n ≤ last_line t
+          → follow (lines text) n t ≡ judged (kind_of facts n) v n (follow (lines rest) (n + 1) (stored t n (content (kind_of facts n) v)))
       line t f d =
           let begun : begins (key_of n) (first_line text) ≡ true = rw (← is, key) (begins_key (key_of n) v) in
           let left : drop (length (key_of n)) (first_line text) ≡ v = rw (← is, key) (drop-append_seam (key_of n) v) in
@@ -106,20 +128,11 @@ module _ (facts n : ℕ) (text : List ℕ) where
 
 small_zeros : Small zeros
 unfolding zeros
-small_zeros = record { facts = omega arith; leader = omega arith; follower = omega arith }
+small_zeros = grind arith
 
 small_stored : (t : Task) (n x : ℕ) → Small t → AtMost (kind_of t.facts n) x → Small (stored t n x)
 unfolding stored with_action kind_of
-small_stored t n x s h =
-    by_test Small (eqb n 1) _ _ (λ q. record { facts = at_most t.facts x 1 n (eqb-true n 1 q) h; leader = s.leader; follower = s.follower }) (λ _.
-    by_test Small (eqb n 2) _ _ (λ _. kept _ _ _ _) (λ _.
-    by_test Small (eqb n 3) _ _ (λ _. kept _ _ _ _) (λ _.
-    by_test Small (eqb n 4) _ _ (λ q. record { facts = s.facts; leader = at_most t.facts x 4 n (eqb-true n 4 q) h; follower = s.follower }) (λ _.
-    by_test Small (eqb n 5) _ _ (λ q. record { facts = s.facts; leader = s.leader; follower = at_most t.facts x 5 n (eqb-true n 5 q) h }) (λ _.
-    by_test Small (ltb (action_of n) t.leader_count) _ _ (λ _. kept _ _ _ _) (λ _. kept _ _ _ _))))))
-  where
-    kept : (i g : ℕ) (l f : List Action) → Small (record { facts = t.facts; initial = i; goal = g; leader_count = t.leader_count; follower_count = t.follower_count; leader = l; follower = f })
-    kept i g l f = record { facts = s.facts; leader = s.leader; follower = s.follower }
+small_stored t n x s h = grind arith
 
 -- ---- the loop over lines
 
@@ -127,16 +140,8 @@ pub on_begin : (text : List ℕ) (t : Task) → t ≡ zeros → OnLine text t 1 
 on_begin text t e = rw e (record { one = omega arith; small = small_zeros; goes = refl })
 
 module _ {text : List ℕ} {t : Task} {n : ℕ} {rest : List ℕ} (o : OnLine text t n rest) where
-  module _ (d : n ≤ last_line t) where
-    pub on_refused : (q : Refusal) → Stops t.facts n rest q → refused (number_of q) (place_of q) ≡ follow (lines text) 1 zeros
-    on_refused q s = sym (o.goes ∙ s t refl d)
-
-    module _ (x : ℕ) (behind : List ℕ) (s : Says t.facts n rest x behind) where
-      pub on_room : Storable t n x
-      on_room = record { one = o.one; room = record { few = o.small.leader; below = omega (arith, o.small.follower) }; small = s.small }
-
-      pub on_next : (u : Task) → u ≡ stored t n x → OnLine text u (n + 1) behind
-      on_next u e = rw e (record { one = omega arith; small = small_stored t n x o.small s.small; goes = o.goes ∙ s.goes t refl d })
+  pub on_next : n ≤ last_line t → (x : ℕ) (behind : List ℕ) → Says t.facts n rest x behind → (u : Task) → u ≡ stored t n x → OnLine text u (n + 1) behind
+  on_next d x behind s u e = rw e (record { one = omega arith; small = small_stored t n x o.small s.small; goes = o.goes ∙ s.goes t refl d })
 
   module _ (d : last_line t < n) where
     pub on_end : rest ≡ [] → accepted t ≡ follow (lines text) 1 zeros

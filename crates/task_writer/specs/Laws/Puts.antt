@@ -25,7 +25,8 @@ five_digits n h = digits_same max_digits n (omega arith) h (omega arith)
 
 -- the facts from i on, among the first `most`, of a set of which fact i is the lowest bit
 module _ (first : Bool) (most i s : ℕ) where
-  pub list_turn : i ≤ most → s % 2 ≡ 1 → listed first (facts_of (most + 1 - i) i s) ≡ member_text first i ++ listed false (facts_of (most + 1 - (i + 1)) (i + 1) (s / 2))
+  pub list_turn : i ≤ most → s % 2 ≡ 1
+      → listed first (facts_of (most + 1 - i) i s) ≡ member_text first i ++ listed false (facts_of (most + 1 - (i + 1)) (i + 1) (s / 2))
   unfolding listed facts_of
   list_turn h e = let k : most + 1 - i ≡ suc (most + 1 - (i + 1)) = omega arith in rw (k, eq-eqb (s % 2) 1 e) refl
 
@@ -63,10 +64,12 @@ unfolding render
 render_is t = let k : last_line t + 1 - 1 ≡ last_line t = omega arith in rw k refl
 
 -- the value of a line, as the code has its kind and its field
-pub value_same : (t : Task) (n : ℕ) (kind : Kind) (x : ℕ) → kind ≡ kind_of t.facts n → x ≡ field t n → value_text kind x ≡ value_text (kind_of t.facts n) (field t n)
+pub value_same : (t : Task) (n : ℕ) (kind : Kind) (x : ℕ) → kind ≡ kind_of t.facts n → x ≡ field t n
+    → value_text kind x ≡ value_text (kind_of t.facts n) (field t n)
 value_same t n kind x e f = cc
 
-pub value_holds : (t : Task) → Valid t → (n : ℕ) → 1 ≤ n → n ≤ last_line t → (kind : Kind) (x : ℕ) → kind ≡ kind_of t.facts n → x ≡ field t n → Modest kind × OfKind kind x
+pub value_holds : (t : Task) → Valid t → (n : ℕ) → 1 ≤ n → n ≤ last_line t → (kind : Kind) (x : ℕ)
+    → kind ≡ kind_of t.facts n → x ≡ field t n → Modest kind × OfKind kind x
 value_holds t v n h l kind x e f = (
   subst Modest (sym e) (modest t.facts v.few_facts n),
   subst (λ (k : Kind). OfKind k x) (sym e) (subst (OfKind (kind_of t.facts n)) (sym f) (field_holds t v n h l)),

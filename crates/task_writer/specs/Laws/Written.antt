@@ -23,12 +23,14 @@ module _ (t : Task) (out : List ℕ) where
   unfolding output_valid answer_valid returned
   wrote_no h =
       let n : length (render t) ≤ length out → ⊥ = λ k. omega (arith, k) in
-      record { output = sym (asked_no (dec_at_most (length (render t)) (length out)) n _ _); answer = sym (asked_no (dec_at_most (length (render t)) (length out)) n _ _) }
+      let d = dec_at_most (length (render t)) (length out) in
+      record { output = sym (asked_no d n _ _); answer = sym (asked_no d n _ _) }
 
   pub wrote_yes : length (render t) ≤ length out → WroteValid t out (over (render t) out) (Ok (length (render t)))
   unfolding output_valid answer_valid returned
   wrote_yes h =
-      record { output = sym (asked_yes (dec_at_most (length (render t)) (length out)) h _ _); answer = sym (asked_yes (dec_at_most (length (render t)) (length out)) h _ _) }
+      let d = dec_at_most (length (render t)) (length out) in
+      record { output = sym (asked_yes d h _ _); answer = sym (asked_yes d h _ _) }
 
   -- ---- question 9
 

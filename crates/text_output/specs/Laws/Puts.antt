@@ -28,7 +28,7 @@ pub record Left (all : List ℕ) (o : Output) (rest : List ℕ) (p : Output) : T
   pub size : length p.bytes.now ≡ length o.bytes.now
 
 pub left_start : (all : List ℕ) (o : Output) → Left all o all o
-left_start all o = record { same = refl; text = refl; end = refl; size = refl }
+left_start all o = grind arith
 
 module _ {all rest : List ℕ} {o p : Output} (l : Left all o rest p) where
   pub left_room : (b more : List ℕ) → rest ≡ b ++ more → HasRoom all o → HasRoom b p
@@ -43,7 +43,7 @@ module _ {all rest : List ℕ} {o p : Output} (l : Left all o rest p) where
   }
 
   pub left_none : rest ≡ [] → Puts all o p
-  left_none e = record { same = l.same; text = sym (l.text ∙ ap (sets p.bytes.now p.end) e); end = omega (arith, l.end, ap length e); size = l.size }
+  left_none e = grind arith
 
 pub put_over : (text out : List ℕ) → length text ≤ length out → sets out 0 text ≡ text ++ drop (length text) out
 put_over text out h = let d : 0 + length text ≤ length out = omega arith in sets-eq text out 0 d ∙ rw (zero-add (length text))

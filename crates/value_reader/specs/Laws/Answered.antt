@@ -1,19 +1,17 @@
 -- What the record is to hold of a value, or the question about it that gets no.
-use Rattle.std.specs.Prelude.{◌≡◌, refl, List, [], ◌∷◌, ◌++◌, map, ℕ, zero, suc, ◌<◌, eqb, length, get_or, Result, Ok, Err}
+use Rattle.std.specs.Prelude.{◌≡◌, refl, List, [], ◌∷◌, ◌++◌, map, ℕ, ◌<◌, eqb, length, get_or, Result, Ok, Err}
 use Rattle.std.specs.List.{slice_split}
 use Rattle.std.proofs.Common.{subst, sym, ap, ◌∙◌, inl, inr, ⊎_elim, arith}
-use Rattle.std.proofs.lemmas.List.{map-append}
+use Rattle.std.proofs.lemmas.Grind.{common_steps}
 use Rattle.outcome.specs.declared.Refusal.{Refusal}
 use Rattle.outcome.specs.declared.Refusal.TheVariants.{Malformed, OutOfRange}
 use Rattle.task_format.specs.Text.{comma, split, parts}
 use Rattle.task_format.specs.Value.{All, IsNumber, decimal, members, Between, RisesFrom, Rises, InForm, InRange, Ascending, set_of, content}
-use Rattle.strips.specs.Laws.Choice.{either}
 use Rattle.task_format.specs.Laws.Value.{members_some}
 use Rattle.task_format.specs.Laws.Parse.{fault_form, fault_range, fault_rising, fault_none}
 use Rattle.task_format.specs.declared.Kind.TheVariants.{Number, FactList}
 use Rattle.value_reader.specs.Answered.{Answered}
 use Rattle.value_reader.specs.Members.{Bad, outside, flat, Read, Joined}
-use Rattle.value_reader.specs.Laws.Members.{all_push}
 use Rattle.value_reader.specs.declared.values.Members.{Members}
 
 -- ---- a number
@@ -37,16 +35,10 @@ module _ (low high n : ℕ) (v : List ℕ) where
 -- the parts that a slice is split into
 pub parts_split : (v : List ℕ) → slice_split (λ b. eqb b comma) v ≡ parts v
 unfolding split
-parts_split [] = refl
-parts_split (b ∷ v) = let r = parts_split v in either (eqb b comma) (λ e. rw (e, r)) (λ e. rw (e, r))
+parts_split v = search arith
 
 all_at : (P : List ℕ → Type 0) (ps : List (List ℕ)) (i : ℕ) (p d : List ℕ) → i < length ps → p ≡ get_or ps i d → All P ps → P p
-all_at P [] i p d h e a = absurd (omega arith)
-all_at P (q ∷ ps) zero p d h e a = subst P (sym e) a.0
-all_at P (q ∷ ps) (suc i) p d h e a = all_at P ps i p d (omega arith) e a.1
-
-pub not_nil : (v : List ℕ) → (length v ≡ 0 → ⊥) → v ≡ [] → ⊥
-not_nil v f e = f (ap length e)
+all_at P ps i p d h e a = grind (arith, common_steps)
 
 pub list_empty : (most n : ℕ) (v : List ℕ) → v ≡ [] → Answered (FactList most) v n (Ok 0)
 unfolding InForm InRange Ascending content members set_of
@@ -59,15 +51,11 @@ pub record Listed (most n : ℕ) (ps : List (List ℕ)) (r : Result Members Refu
 
 pub listed_begin : (most n : ℕ) → Listed most n [] (Ok (record { last = 0; set = 0 }))
 unfolding set_of
-listed_begin most n = record { numbers = tt; read = record { range = tt; rise = tt; last = refl; set = refl; small = omega arith } }
+listed_begin most n = grind arith
 
 pub listed_more : (most n : ℕ) (ps : List (List ℕ)) (p : List ℕ) (k : ℕ) (r s : Result Members Refusal)
     → Listed most n ps r → IsNumber p → k ≡ decimal p → Joined most n r k s → Listed most n (ps ++ (p ∷ [])) s
-listed_more most n ps p k r s l w e j =
-    record {
-      numbers = all_push IsNumber ps p l.numbers w;
-      read = subst (λ (ms : List ℕ). Read most n ms s) (ap (λ (x : ℕ). map decimal ps ++ (x ∷ [])) e ∙ sym (map-append decimal ps (p ∷ []))) (j (map decimal ps) l.read);
-    }
+listed_more most n ps p k r s l w e j = grind (arith, common_steps)
 
 -- all parts are read
 pub at_end : (most n : ℕ) (ps qs : List (List ℕ)) {r s : Result Members Refusal} → ps ≡ qs → r ≡ s → Listed most n ps r → Listed most n qs s
@@ -75,17 +63,16 @@ at_end most n ps qs {r} {s} e f l = rw (← e, ← f) l
 
 module _ (most n : ℕ) (v : List ℕ) (some : v ≡ [] → ⊥) where
   -- a part that is no number
-  pub list_malformed : (i : ℕ) (p d : List ℕ) → i < length (parts v) → p ≡ get_or (parts v) i d → (IsNumber p → ⊥) → Answered (FactList most) v n (Err (Malformed n))
+  pub list_malformed : (i : ℕ) (p d : List ℕ) → i < length (parts v) → p ≡ get_or (parts v) i d → (IsNumber p → ⊥)
+      → Answered (FactList most) v n (Err (Malformed n))
   unfolding InForm
   list_malformed i p d h e f = (sym (fault_form (FactList most) v (⊎_elim some (λ a. f (all_at IsNumber (parts v) i p d h e a)))), refl)
 
   rise_first : (ms : List ℕ) → RisesFrom 0 ms → Rises ms
-  rise_first [] r = tt
-  rise_first (m ∷ ms) r = r.1
+  rise_first ms r = grind arith
 
   rise_zero : (ms : List ℕ) → All (Between 1 most) ms → Rises ms → RisesFrom 0 ms
-  rise_zero [] a r = tt
-  rise_zero (m ∷ ms) a r = (a.0.0, r)
+  rise_zero ms a r = grind arith
 
   formed : All IsNumber (parts v) → InForm (FactList most) v
   unfolding InForm
@@ -98,18 +85,18 @@ module _ (most n : ℕ) (v : List ℕ) (some : v ≡ [] → ⊥) where
   pub list_good : (m : Members) → Listed most n (parts v) (Ok m) → Answered (FactList most) v n (Ok m.set)
   unfolding Ascending content
   list_good m l =
-      let g = l.read in (
-        fault_none (FactList most) v (formed l.numbers) (ranged g.range) (subst Rises (sym (members_some v some)) (rise_first (map decimal (parts v)) g.rise)),
-        g.set ∙ ap set_of (sym (members_some v some)),
-      )
+      let g = l.read in
+      let are = sym (members_some v some) in
+      (fault_none (FactList most) v (formed l.numbers) (ranged g.range) (subst Rises are (rise_first (map decimal (parts v)) g.rise)), g.set ∙ ap set_of are)
 
   pub list_bad : (q : Refusal) → Listed most n (parts v) (Err q) → Answered (FactList most) v n (Err q)
   unfolding InRange Ascending
   list_bad q l = of q l.read
     where
       of : (q : Refusal) → Bad most n (map decimal (parts v)) q → Answered (FactList most) v n (Err q)
-      of q (outside f) = (sym (fault_range (FactList most) v (formed l.numbers) (λ b. f (subst (All (Between 1 most)) (members_some v some) b))), refl)
-      of q (flat b f) = (
-        sym (fault_rising (FactList most) v (formed l.numbers) (ranged b) (λ r. f (rise_zero (map decimal (parts v)) b (subst Rises (members_some v some) r)))),
-        refl,
-      )
+      of q (outside f) =
+          let out : InRange (FactList most) v → ⊥ = λ b. f (subst (All (Between 1 most)) (members_some v some) b) in
+          (sym (fault_range (FactList most) v (formed l.numbers) out), refl)
+      of q (flat b f) =
+          let level : Ascending (FactList most) v → ⊥ = λ r. f (rise_zero (map decimal (parts v)) b (subst Rises (members_some v some) r)) in
+          (sym (fault_rising (FactList most) v (formed l.numbers) (ranged b) level), refl)

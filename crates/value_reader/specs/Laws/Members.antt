@@ -1,7 +1,7 @@
 -- A member more of a list.
 use Rattle.std.specs.Prelude.{◌≡◌, refl, List, [], ◌∷◌, ◌++◌, ℕ, ◌+◌, ◌-◌, ◌*◌, ◌^◌, ◌%◌, ◌≤◌, ◌<◌}
-use Rattle.std.proofs.Common.{sym, ap, ◌∙◌, arith, mod-eq_of_lt, one-mul, pow_mono}
-use Rattle.std.proofs.Math.Pow.{pow-lt}
+use Rattle.std.proofs.Common.{rules, sym, ap, ◌∙◌, arith, pow_mono}
+use Rattle.std.proofs.lemmas.Grind.{common_steps}
 use Rattle.strips.specs.Limits.{max_facts}
 use Rattle.outcome.specs.declared.Refusal.{Refusal}
 use Rattle.outcome.specs.declared.Refusal.TheVariants.{OutOfRange, NotRising}
@@ -11,8 +11,7 @@ use Rattle.value_reader.specs.Members.{last_from, Good, Bad, outside, flat}
 use Rattle.value_reader.specs.declared.values.Members.{Members}
 
 pub all_push : {A : Type 0} (P : A → Type 0) (l : List A) (x : A) → All P l → P x → All P (l ++ (x ∷ []))
-all_push P [] x a p = (p, tt)
-all_push P (y ∷ l) x a p = (a.0, all_push P l x a.1 p)
+all_push P l x a p = grind (arith, common_steps)
 
 all_last : {A : Type 0} (P : A → Type 0) (l : List A) (x : A) → All P (l ++ (x ∷ [])) → All P l × P x
 all_last P [] x a = (tt, a.0)
@@ -38,17 +37,12 @@ set_push (j ∷ ms) k = omega (arith, set_push ms k)
 -- ---- the set with a fact more
 
 shifted : (k : ℕ) → k ≤ max_facts → 1 ≤ k → (1 * 2 ^ (k - 1)) % 2 ^ 64 ≡ 2 ^ (k - 1)
-shifted k h l = rw one-mul (mod-eq_of_lt (pow-lt {i = k - 1} {j = 64} (omega arith)))
+shifted k h l = search (rules, arith)
 
 grown : (set last k : ℕ) → set < 2 ^ last → last < k → set + 2 ^ (k - 1) < 2 ^ k
 grown set last k h l =
     let a : 2 ^ last ≤ 2 ^ (k - 1) = pow_mono {i = last} {j = k - 1} (omega arith) in
     omega (arith, doubled k (omega arith))
-
-pub set_fits : (set last k : ℕ) → set < 2 ^ last → last < k → k ≤ max_facts → set + (1 * 2 ^ (k - 1)) % 2 ^ 64 < 2 ^ 64
-set_fits set last k h l m =
-    let a : 2 ^ k ≤ 2 ^ 64 = pow_mono {i = k} {j = 64} m in
-    rw (shifted k m (omega arith)) (omega (arith, grown set last k h l))
 
 -- ---- the cases of a member more
 

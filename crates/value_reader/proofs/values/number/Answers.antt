@@ -1,6 +1,5 @@
 -- `value_reader::values::number` meets its contract.
-use Rattle.std.proofs.Common.{arith, ⊎_elim, sym, ◌∙◌}
-use Rattle.std.proofs.lemmas.Bool.{eqb-false}
+use Rattle.std.proofs.Common.{rules, arith, ⊎_elim}
 use Rattle.value_reader.specs.Laws.Numbers.{digits_more, digits_all}
 use Rattle.value_reader.proofs.values.number.Goals as goal
 
@@ -11,6 +10,5 @@ loop-byte-preserved c =
 
 pub returns-clause-some : goal.returns-clause-some
 returns-clause-some c =
-    let some = eqb-false _ _ (sym c.is_empty.ensures ∙ c.if-is_empty.false) in
-    digits_all c.loop-byte.invariant c.loop-byte-test.false (omega (arith, some)) c.if-bytes.false
+    digits_all c.loop-byte.invariant c.loop-byte-test.false (search rules) c.if-bytes-gt-MAX_DIGITS.false
     (λ e. ⊎_elim (λ h. h.1) (λ h. absurd (h e)) c.else-bytes-eq48.either)

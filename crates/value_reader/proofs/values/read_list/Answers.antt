@@ -1,49 +1,52 @@
 -- `value_reader::values::read_list` meets its contract.
-use Rattle.std.specs.Prelude.{◌≡◌, Some, None, map}
-use Rattle.std.proofs.Common.{arith, rules, tests, sym, ◌∙◌}
-use Rattle.std.proofs.lemmas.Bool.{eqb-true, eqb-false}
-use Rattle.std.proofs.lemmas.List.{map-append}
-use Rattle.std.proofs.lemmas.Option.{MatchOption-at_some, MatchOption-at_none}
+use Rattle.std.specs.Prelude.{◌≡◌, None, [], map}
+use Rattle.std.proofs.Common.{arith, rules, tests}
+use Rattle.std.proofs.lemmas.List.{map-append, nil_from_length}
 use Rattle.std.proofs.lemmas.Result.{err_from_is_err_and}
 use Rattle.outcome.specs.declared.Refusal.TheVariants.{Malformed}
-use Rattle.std.proofs.lemmas.List.{nil_from_length}
-use Rattle.value_reader.specs.Laws.Answered.{not_nil, list_empty, listed_begin, listed_more, at_end, list_malformed, list_good, list_bad}
+use Rattle.task_format.specs.Text.{parts}
+use Rattle.task_format.specs.Value.{IsNumber, decimal}
+use Rattle.value_reader.specs.Laws.Answered.{list_empty, listed_begin, listed_more, at_end, list_malformed, list_good, list_bad}
 use Rattle.value_reader.proofs.Parts.{part_turn, part_end}
+use Rattle.value_reader.proofs.values.read_list.Goals.{After-split-part-items, After-next}
 use Rattle.value_reader.proofs.values.read_list.Goals as goal
 
+-- the value is not empty where it is split
+some : (c : After-split-part-items) → c.args.value.now ≡ [] → ⊥
+some c e = search rules
+
+-- and where the loop ends, all its parts are read
+all : (c : After-next) → c.next.result ≡ None → map (λ p. p.now) c.loop-part.yielded ≡ parts c.args.value.now
+all c e = part_end _ _ _ c.loop-part.yielded _ c.loop-part.yielded_by _ _ c.next.ensures.steps (cc) (cc) (λ x b q k. search (rules, tests)) e
+
 pub returns-then-is_empty : goal.returns-then-is_empty
-returns-then-is_empty c = list_empty c.args.most c.args.line c.args.value.now (nil_from_length c.args.value.now (eqb-true _ _ (sym c.is_empty.ensures ∙ c.if-is_empty.true)))
+returns-then-is_empty c = list_empty c.args.most c.args.line c.args.value.now (search (rules, nil_from_length))
 
 pub loop-part-init : goal.loop-part-init
-loop-part-init c = listed_begin c.args.most c.args.line
+loop-part-init c = listed_begin _ _
 
 pub returns-in_err-member : goal.returns-in_err-member
 returns-in_err-member c =
     let a = c.args in
     let p = err_from_is_err_and c.from_residual.result c.from_residual.ensures.1 in
-    let none : c.number.result ≡ None = grind arith in
     let q : c.in_err-member.field-0.0 ≡ Malformed a.line = grind arith in
-    let some = not_nil a.value.now (eqb-false _ _ (sym c.is_empty.ensures ∙ c.if-is_empty.false)) in
-    let turn = part_turn _ a.value.now _ c.loop-part.yielded _ c.loop-part.yielded_by _ _ c.next.ensures.steps (cc) (cc) (λ x b q k. search (rules, tests)) c.in-Some.part c.in-Some.is in
-    rw (p.1, p.2, q) (list_malformed a.most a.line a.value.now some _ _ _ turn.0 turn.1 (MatchOption-at_none _ _ none c.number.ensures.none))
+    let step = c.next.ensures.steps in
+    let turn = part_turn _ a.value.now _ c.loop-part.yielded _ c.loop-part.yielded_by _ _ step (cc) (cc) (λ x b q k. search (rules, tests)) _ c.in-Some.is in
+    rw (p.1, p.2, q) (list_malformed _ _ _ (some (goal.at.returns-in_err-member c).After-split-part-items) _ _ _ turn.0 turn.1 (grind arith))
 
 pub loop-part-preserved : goal.loop-part-preserved
 loop-part-preserved c =
-    let some : c.number.result ≡ Some c.in_ok-member.member = grind arith in
-    let w = MatchOption-at_some _ _ _ some c.number.ensures.some in
-    simp map-append (listed_more _ _ (map (λ p. p.now) c.loop-part.yielded) c.in-Some.part.now c.in_ok-member.member _ _ c.loop-part.invariant w.0 w.1 c.join-members.ensures)
+    let w : IsNumber c.in-Some.part.now × (c.in_ok-member.member ≡ decimal c.in-Some.part.now) = grind arith in
+    simp map-append (listed_more _ _ _ _ _ _ _ c.loop-part.invariant w.0 w.1 c.join-members.ensures)
 
 pub returns-in_err-members : goal.returns-in_err-members
 returns-in_err-members c =
-    let a = c.args in
+    let at = goal.at.returns-in_err-members c in
     let p = err_from_is_err_and c.from_residual-in_err-members.result c.from_residual-in_err-members.ensures.1 in
-    let some = not_nil a.value.now (eqb-false _ _ (sym c.is_empty.ensures ∙ c.if-is_empty.false)) in
-    let all = part_end _ a.value.now _ c.loop-part.yielded _ c.loop-part.yielded_by _ _ c.next.ensures.steps (cc) (cc) (λ x b q k. search (rules, tests)) c.in-None.is in
-    rw (p.1, p.2) (list_bad a.most a.line a.value.now some _ (at_end a.most a.line _ _ all c.in_err-members.was c.loop-part.invariant))
+    rw (p.1, p.2)
+    (list_bad _ _ _ (some at.After-split-part-items) _ (at_end _ _ _ _ (all at.After-next c.in-None.is) c.in_err-members.was c.loop-part.invariant))
 
 pub returns : goal.returns
 returns c =
-    let a = c.args in
-    let some = not_nil a.value.now (eqb-false _ _ (sym c.is_empty.ensures ∙ c.if-is_empty.false)) in
-    let all = part_end _ a.value.now _ c.loop-part.yielded _ c.loop-part.yielded_by _ _ c.next.ensures.steps (cc) (cc) (λ x b q k. search (rules, tests)) c.in-None.is in
-    list_good a.most a.line a.value.now some _ (at_end a.most a.line _ _ all c.in_ok-members.was c.loop-part.invariant)
+    let at = goal.at.returns c in
+    list_good _ _ _ (some at.After-split-part-items) _ (at_end _ _ _ _ (all at.After-next c.in-None.is) c.in_ok-members.was c.loop-part.invariant)

@@ -1,2 +1,0 @@
--- What is proved about the record that reading begins with.
-pub mod Zeros
