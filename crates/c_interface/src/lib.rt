@@ -1,4 +1,5 @@
-// What C and Rust programs call: the report of a hall file's text, and its reader. Slices pass as a pointer and a length.
+// What C and Rust programs call: the report of a hall file's text, and its reader. Slices pass as a pointer and a length, so the
+// four working slices come one by one, and a workspace is made of them here.
 #![tactic(auto)]
 
 mod telling;

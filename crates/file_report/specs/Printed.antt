@@ -29,7 +29,8 @@ lines_printed lines =
 pub data Prints (text : List ℕ) : List ℕ → Type 0 where
   text_refused : 1 ≤ (parse text).number → Prints text (refusal_text (parse text).number (parse text).place)
   reach_refused : (parse text).number ≡ 0 → (Fits (parse text).task places → ⊥) → Prints text (refusal_text 13 0)
-  front_listed : {lines : List Line} → (parse text).number ≡ 0 → Fits (parse text).task places → Front (parse text).task lines → Prints text (lines_printed lines)
+  front_listed : {lines : List Line} → (parse text).number ≡ 0 → Fits (parse text).task places → Front (parse text).task lines
+      → Prints text (lines_printed lines)
 
 -- what is printed stands at the front of the output, which keeps what is beyond, and has r bytes
 pub record AnswerPut (text before after : List ℕ) (r : ℕ) : Type 0 where

@@ -2,7 +2,7 @@
 use Rattle.std.specs.Prelude.{◌≡◌, List, ℕ, ◌≤◌, replicate}
 use Rattle.strips.specs.declared.Task.{Task}
 use Rattle.task_format.specs.Parse.{Read}
-use Rattle.questions.specs.Lent.{Lent}
+use Rattle.questions.specs.Lent.{Lent, from}
 use Rattle.questions.specs.Memory.{Slice, four_slices}
 use Rattle.questions.specs.Call.{Returned}
 use Rattle.questions.specs.Workspace.{slices_in}
@@ -38,9 +38,6 @@ plan_numbers = 4096
 -- the working slices, cleared
 abbrev pub program_slices : List Slice
 program_slices = four_slices (replicate places 0) (replicate places (replicate 4 0)) (replicate places (replicate 64 0)) (replicate places (replicate 8 0))
-
-abbrev from : {A : Type 0} → A → A → Lent A
-from b a = record { before = b; after = a }
 
 -- the same with what the program lends
 pub record Answered (read : Read) (output output' : List ℕ) (r : Returned Counts) : Type 0 where

@@ -79,7 +79,9 @@ fn print_refusal(output: &mut [u8], refusal: Refusal) -> usize
     ensures bytes { result ≡ length (refusal_text (number_of refusal) (place_of refusal)) }
     ensures text { output.new ≡ over (refusal_text (number_of refusal) (place_of refusal)) output.old }
 {
-    put_in(output, |out| put_refusal(out, refusal))
+    let number = refusal.number();
+    let place = refusal.place() as u32;
+    put_in(output, |out| put_refusal(out, number, place))
 }
 
 // What the program prints for a text, put at the front of the output: the report of the task that it says, or the two lines of the

@@ -2,9 +2,9 @@
 use Rattle.std.specs.Prelude.{◌≡◌, List, ℕ, ◌≤◌, length, replicate}
 use Rattle.strips.specs.declared.Task.{Task}
 use Rattle.rows.specs.Cleared.{everywhere, zeros}
-use Rattle.questions.specs.Lent.{Lent}
+use Rattle.questions.specs.Lent.{Lent, over}
 use Rattle.questions.specs.Memory.{Room, slices_after}
-use Rattle.questions.specs.Call.{Returned, Asks, done, refused}
+use Rattle.questions.specs.Call.{Call, Returned, Asks, done, refused}
 use Rattle.questions.specs.Workspace.{states_in, index_in, links_in, rows_in, slices_in, sizes_of}
 use Rattle.questions.specs.declared.workspace.Workspace.{Workspace}
 use Rattle.pareto.specs.Front.{Line}
@@ -46,3 +46,29 @@ pub record DoneLeft (t : Task) (w : Lent Workspace) (entries numbers : ℕ) (r :
 
 abbrev pub FrontAsked : Task → Lent Workspace → (entries numbers : ℕ) → Returned ℕ → Type 0
 FrontAsked t w entries numbers r = Asks (front_call t) front_asks (room_in w.before entries numbers) (RefusedLeft t w r) (DoneLeft t w entries numbers r)
+
+-- ---- plans and a text are written too, and no entries yet
+
+module _ {A : Type 0} (c : Call (List Line) A) (w : Lent Workspace) (plans text : Lent (List ℕ)) (entries : ℕ) (r : Returned A) where
+  -- what a refusal leaves
+  pub record RefusedWritten (q : ℕ) : Type 0 where
+    pub some : 1 ≤ q
+    pub returns : r ≡ refused c q
+    pub slices : SlicesLeft q w
+    pub plans_kept : plans.after ≡ plans.before
+    pub text_kept : text.after ≡ text.before
+
+  -- what success leaves
+  pub record DoneWritten (lines : List Line) : Type 0 where
+    pub returns : r ≡ done c lines
+    pub left : LinesLeft w lines
+    pub entries_fit : length lines ≤ entries
+    pub plans_written : plans.after ≡ over (c.output lines).plans plans.before
+    pub text_written : text.after ≡ over (c.output lines).text text.before
+
+  -- the room in all that is lent, with so many entries
+  abbrev pub room_with : Room
+  room_with = record { sizes = sizes_of w.before; entries = entries; plans = length plans.before; text = length text.before }
+
+  abbrev pub LinesWritten : Type 0
+  LinesWritten = Asks c c.asks room_with RefusedWritten DoneWritten

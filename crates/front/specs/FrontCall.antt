@@ -16,18 +16,22 @@ use Rattle.pareto.specs.Layout.{entry_for, plans_for}
 abbrev pub front_asks : List ℕ
 front_asks = 8 ∷ record_asks ++ 13 ∷ 14 ∷ 15 ∷ []
 
--- what is found is the front: its entries and plans are written, and the number of its lines is returned
-abbrev pub front_call : Task → Call (List Line) ℕ
-front_call t = record {
-  asks = front_asks;
+-- what is found is the front: its entries and plans are written, and this text of it
+abbrev pub lines_call : {A : Type 0} → List ℕ → (List Line → List ℕ) → (List Line → A) → A → Task → Call (List Line) A
+lines_call asks text_of values zero t = record {
+  asks = asks;
   task = t;
   leader_plan = [];
   follower_plan = [];
   Found = Front t;
-  output = λ lines. record { entries = map entry_for lines; plans = plans_for lines; text = [] };
-  values = length;
-  zero = 0;
+  output = λ lines. record { entries = map entry_for lines; plans = plans_for lines; text = text_of lines };
+  values = values;
+  zero = zero;
 }
+
+-- no text is written, and the number of lines is returned
+abbrev pub front_call : Task → Call (List Line) ℕ
+front_call = lines_call front_asks (λ lines. []) length 0
 
 abbrev pub FrontCall : Task → Lent Workspace → Lent (List Entry) → Lent (List ℕ) → Returned ℕ → Type 0
 FrontCall t work entries plans = Promise (front_call t) (memory (slices_in work) entries plans none)

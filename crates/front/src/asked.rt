@@ -11,6 +11,7 @@ use strips::Task;
 
 // Entries and plan numbers stay two parameters: they are the rooms of the call's own two slices, as document 01 has them.
 // The number of lines, which are left in the rows, or the first question that gets no; all else is cleared, or untouched.
+#[tactic(auto, using(crate::specs::Laws::Asked::all_questions))]
 pub fn ask_front(
     task: Task,
     work: &mut Workspace<'_>,
@@ -21,6 +22,6 @@ pub fn ask_front(
     ensures asked { FrontAsked task (lent work) entries numbers (returned result) }
 {
     let n = work.places()?;
-    record_verdict(task)?;
+    let task = record_verdict(task)?;
     list_lines(task, n, work, entries, numbers)
 }

@@ -5,12 +5,13 @@ ghost use Rattle.front.specs.FrontCall.{returned, FrontCall};
 
 use crate::asked::ask_front;
 use front_entries::take_entries;
-use front_lines::write_plans;
+use front_lines::Lines;
 use outcome::{Entry, Refusal};
 use questions::Workspace;
 use strips::Task;
 
 // The Pareto front of a task: the number of its lines, with their entries and plans, or the first question that gets no.
+#[tactic(auto, using(crate::specs::Laws::Listed::listed_lines))]
 pub fn front(
     task: Task,
     work: &mut Workspace<'_>,
@@ -23,7 +24,7 @@ pub fn front(
     let count = ask_front(task, work, entries.len(), plans.len())?;
     // Lent as `&` out of the workspace, the rows would be lost to the proof.
     let rows = &mut *work.rows;
-    write_plans(rows, count, plans);
+    Lines::new(rows, count).write_plans(plans);
     take_entries(entries, rows, count);
     Ok(count)
 }

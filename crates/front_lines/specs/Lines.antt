@@ -1,18 +1,27 @@
 -- The lines of the rows that are noted.
-use Rattle.std.specs.Prelude.{List, ◌++◌, map, ℕ, ◌≤◌, ◌<◌, length, get_or, take}
+use Rattle.std.specs.Prelude.{List, [], ◌++◌, map, ℕ, ◌≤◌, ◌<◌, length, get_or, take}
 use Rattle.strips.specs.declared.Task.{Task}
+use Rattle.outcome.specs.Answer.{none}
 use Rattle.search.specs.Limits.{max_places}
 use Rattle.pareto.specs.Front.{Line, Front}
-use Rattle.planner.specs.Reading.{leader_plan_at, price_at, follower_plan_at, answer_at, notes}
+use Rattle.planner.specs.Reading.{notes, Reading, reading_at}
 use Rattle.planner.specs.Inner.Columns.{Readable}
+
+-- the line that a row says
+abbrev pub line_of : Reading → Line
+line_of r = record { price = r.price; answer = r.answer; leader_plan = r.leader_plan; follower_plan = r.follower_plan }
 
 -- the line of row i
 unfoldable pub line_at : List (List ℕ) → ℕ → Line
-line_at R i = record { price = price_at R i; answer = answer_at R i; leader_plan = leader_plan_at R i; follower_plan = follower_plan_at R i }
+line_at R i = line_of (reading_at R i)
 
--- both plans of row i, one after the other
-abbrev pub plans_at : List (List ℕ) → ℕ → List ℕ
-plans_at R i = leader_plan_at R i ++ follower_plan_at R i
+-- line k of a list, counted from 0; behind the last it says nothing
+abbrev pub line_number : List Line → ℕ → Line
+line_number lines k = get_or lines k (record { price = 0; answer = none; leader_plan = []; follower_plan = [] })
+
+-- both plans of a line, one after the other
+abbrev pub plans_of : Line → List ℕ
+plans_of l = l.leader_plan ++ l.follower_plan
 
 -- the row that is noted k-th, counted from 0
 abbrev pub note_at : List (List ℕ) → ℕ → ℕ

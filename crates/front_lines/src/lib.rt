@@ -1,10 +1,8 @@
-// Not for outsiders. The lines of the Pareto front among the rows of the searches: chosen in one pass, counted, written.
+// Not for outsiders. The lines of the Pareto front among the rows of the searches: chosen in one pass, counted, read, written.
 #![tactic(auto)]
 
-mod entries;
-mod plans;
+mod lines;
 mod selection;
 
-pub use entries::entry;
-pub use plans::{total_steps, write_plans};
+pub use lines::{Lines, entry};
 pub use selection::choose;

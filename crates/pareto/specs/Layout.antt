@@ -11,7 +11,13 @@ answer_for (minutes n) = Some (record { 0 = n })
 answer_for none = None
 
 unfoldable pub entry_for : Line → Entry
-entry_for l = record { price = record { 0 = l.price }; answer = answer_for l.answer; leader_steps = length l.leader_plan; follower_steps = length l.follower_plan }
+entry_for l =
+    record {
+      price = record { 0 = l.price };
+      answer = answer_for l.answer;
+      leader_steps = length l.leader_plan;
+      follower_steps = length l.follower_plan;
+    }
 
 -- the plans of the lines, the leader's before the follower's
 unfoldable pub plans_for : List Line → List ℕ

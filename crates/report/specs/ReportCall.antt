@@ -1,5 +1,5 @@
 -- What a call promises that writes the front as a text too (document 01: the report of a hall).
-use Rattle.std.specs.Prelude.{List, [], ◌∷◌, ◌++◌, map, ℕ, length, replicate, None, Result, Ok, Err}
+use Rattle.std.specs.Prelude.{List, [], ◌∷◌, ◌++◌, ℕ, length, replicate, None, Result, Ok, Err}
 use Rattle.strips.specs.declared.Task.{Task}
 use Rattle.outcome.specs.Refusal.{number_of, place_of}
 use Rattle.outcome.specs.declared.Entry.{Entry}
@@ -10,8 +10,8 @@ use Rattle.questions.specs.Record.{record_asks}
 use Rattle.questions.specs.Call.{Call, Returned, Promise}
 use Rattle.questions.specs.Workspace.{slices_in}
 use Rattle.questions.specs.declared.workspace.Workspace.{Workspace}
-use Rattle.pareto.specs.Front.{Line, Front}
-use Rattle.pareto.specs.Layout.{entry_for, plans_for}
+use Rattle.pareto.specs.Front.{Line}
+use Rattle.front.specs.FrontCall.{lines_call}
 use Rattle.report_text.specs.Report.{report_text}
 use Rattle.report.specs.declared.Written.{Written}
 
@@ -28,16 +28,7 @@ counts k b = record { entries = k; bytes = b }
 
 -- the front with a text of its lines
 abbrev pub text_call : (List Line → List ℕ) → Task → Call (List Line) Counts
-text_call text_of t = record {
-  asks = report_asks;
-  task = t;
-  leader_plan = [];
-  follower_plan = [];
-  Found = Front t;
-  output = λ lines. record { entries = map entry_for lines; plans = plans_for lines; text = text_of lines };
-  values = λ lines. counts (length lines) (length (text_of lines));
-  zero = counts 0 0;
-}
+text_call text_of = lines_call report_asks text_of (λ lines. counts (length lines) (length (text_of lines))) (counts 0 0)
 
 abbrev pub report_call : Task → Call (List Line) Counts
 report_call = text_call report_text

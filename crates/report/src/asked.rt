@@ -3,7 +3,6 @@ ghost use Rattle.std.specs.Prelude.{◌≤◌, length};
 ghost use Rattle.questions.specs.Lent.{lent};
 ghost use Rattle.questions.specs.Workspace.{SameSlices};
 ghost use Rattle.pareto.specs.Layout.{plans_for};
-ghost use Rattle.front_lines.specs.Lines.{lines_in, Listed};
 ghost use Rattle.report.specs.ReportCall.{returned};
 ghost use Rattle.report.specs.Asked.{LinesPrinted, ReportListed};
 
@@ -11,35 +10,30 @@ use crate::Written;
 use crate::bytes::report_bytes;
 use crate::text::put_report;
 use front::ask_front;
-use front_lines::write_plans;
+use front_lines::Lines;
 use outcome::Refusal;
 use questions::Workspace;
 use rows::WORDS;
 use strips::Task;
 
-// Question 16, and plans and text of the first `count` lines; the rows are cleared where it gets no.
-fn print_lines(
-    rows: &mut [[u64; WORDS]],
-    count: usize,
-    plans: &mut [u8],
-    text: &mut [u8],
-) -> Result<Written, Refusal>
-    requires { Listed rows.old count × (length (plans_for (lines_in rows.old count)) ≤ length plans.old) }
-    ensures { LinesPrinted (lines_in rows.old count) (lent rows) (lent plans) (lent text) (returned result) }
+// Question 16, and plans and text of the lines.
+fn print_lines(lines: &Lines<'_>, plans: &mut [u8], text: &mut [u8]) -> Result<Written, Refusal>
+    requires { length (plans_for lines.now) ≤ length plans.old }
+    ensures { LinesPrinted lines.now (lent plans) (lent text) (returned result) }
 {
-    if text.len() < report_bytes(rows, count) {
-        rows.fill([0; WORDS]);
+    if text.len() < report_bytes(lines) {
         return Err(Refusal::OutputTooLong);
     }
-    write_plans(rows, count, plans);
-    let bytes = put_report(text, rows, count, plans);
+    lines.write_plans(plans);
+    let bytes = put_report(text, lines, plans);
     Ok(Written {
-        entries: count,
+        entries: lines.count(),
         bytes,
     })
 }
 
-// With room for so many entries.
+// With room for so many entries; the rows are cleared where question 16 gets no.
+#[tactic(auto, using(front::specs::Laws::Listed::listed_lines, crate::specs::Laws::Listed::report_refused))]
 pub fn list_report(
     task: Task,
     work: &mut Workspace<'_>,
@@ -51,5 +45,11 @@ pub fn list_report(
     ensures listed { ReportListed task (lent work) (lent plans) (lent text) room (returned result) }
 {
     let count = ask_front(task, work, room, plans.len())?;
-    print_lines(work.rows, count, plans, text)
+    // Lent as `&` out of the workspace, the rows would be lost to the proof.
+    let rows = &mut *work.rows;
+    let printed = print_lines(&Lines::new(rows, count), plans, text);
+    if printed.is_err() {
+        rows.fill([0; WORDS]);
+    }
+    printed
 }

@@ -1,8 +1,6 @@
 // The text put into an output, one part behind the other.
-ghost use Rattle.std.specs.Prelude.{◌∷◌, ◌≤◌, length};
+ghost use Rattle.std.specs.Prelude.{◌≡◌, ◌∷◌, ◌≤◌, length, drop};
 ghost use Rattle.outcome.specs.Answer.{value_of};
-ghost use Rattle.outcome.specs.Limits.{max_number};
-ghost use Rattle.outcome.specs.Refusal.{number_of, place_of};
 ghost use Rattle.task_format.specs.Text.{comma};
 ghost use Rattle.text_output.specs.Puts.{HasRoom, Puts};
 ghost use Rattle.search.specs.Limits.{max_places};
@@ -10,10 +8,10 @@ ghost use Rattle.report_text.specs.Report.{numeral, plan_text, answer_text, prin
 ghost use Rattle.report_text.specs.Content.{content_text};
 ghost use Rattle.report_text.specs.Entries.{entry_steps, line_from};
 
-use outcome::{Answer, Entry, Refusal};
+use outcome::{Answer, Entry};
 use text_output::Output;
 
-// What stands between a printed line's key and its newline.
+// What stands between a printed line's key and its newline. As data and no closure: `content_text` says once what each puts.
 #[derive(Clone, Copy)]
 enum Content<'a> {
     Number(u32),
@@ -84,18 +82,20 @@ fn put_line(out: &mut Output<'_>, key: &[u8], content: Content<'_>)
     out.put_byte(b'\n');
 }
 
-// The lines of an entry whose plans are the first of these plan numbers.
+// The lines of an entry whose plans are the first of these plan numbers. Hands back the others.
 #[tactic(auto, using(crate::specs::Laws::Sizes::four_length), unfolding(crate::specs::Entries::line_from))]
-pub fn put_entry(out: &mut Output<'_>, entry: Entry, plans: &[u8])
+pub fn put_entry<'a>(out: &mut Output<'_>, entry: Entry, plans: &'a [u8]) -> &'a [u8]
     requires { (entry_steps entry ≤ length plans.now) × HasRoom (line_text (line_from entry plans.now)) out.old }
-    ensures { Puts (line_text (line_from entry plans.now)) out.old out.new }
+    ensures text { Puts (line_text (line_from entry plans.now)) out.old out.new }
+    ensures rest { result.now ≡ drop (entry_steps entry) plans.now }
 {
     let (outages, others) = plans.split_at(entry.leader_steps as usize);
-    let (moves, _) = others.split_at(entry.follower_steps as usize);
+    let (moves, rest) = others.split_at(entry.follower_steps as usize);
     put_line(out, b"price=", Content::Number(entry.price.0));
     put_line(out, b"answer=", Content::Answer(entry.answer));
     put_line(out, b"outages=", Content::Plan(outages));
     put_line(out, b"moves=", Content::Plan(moves));
+    rest
 }
 
 // The first printed line.
@@ -109,10 +109,10 @@ pub fn put_head(out: &mut Output<'_>, count: usize)
 
 // The two lines of a refusal.
 #[tactic(auto, using(crate::specs::Laws::Sizes::refusal_length, text_output::specs::Laws::Puts::puts_append), unfolding(crate::specs::Report::refusal_text))]
-pub fn put_refusal(out: &mut Output<'_>, refusal: Refusal)
-    requires { (place_of refusal ≤ max_number) × HasRoom (refusal_text (number_of refusal) (place_of refusal)) out.old }
-    ensures { Puts (refusal_text (number_of refusal) (place_of refusal)) out.old out.new }
+pub fn put_refusal(out: &mut Output<'_>, number: u32, place: u32)
+    requires { HasRoom (refusal_text number place) out.old }
+    ensures { Puts (refusal_text number place) out.old out.new }
 {
-    put_line(out, b"refused=", Content::Number(refusal.number()));
-    put_line(out, b"line=", Content::Number(refusal.place() as u32));
+    put_line(out, b"refused=", Content::Number(number));
+    put_line(out, b"line=", Content::Number(place));
 }

@@ -4,15 +4,12 @@ use Rattle.std.proofs.Math.Path.{sym}
 use Rattle.std.proofs.Common.{ap, ◌∙◌, arith, take_all, drop_of_length-le}
 use Rattle.std.proofs.Math.Decide.{dec_le}
 use Rattle.task_format.specs.Parse.{Read}
-use Rattle.questions.specs.Lent.{Lent}
+use Rattle.questions.specs.Lent.{Lent, from}
 use Rattle.questions.specs.Memory.{Slice, four_slices}
 use Rattle.questions.specs.Call.{Returned}
 use Rattle.report.specs.ReportCall.{Counts}
 use Rattle.file_report.specs.Laws.TextCall.{text_unique}
 use Rattle.c_interface.specs.Told.{told_in, report_numbers, ReportTold}
-
-abbrev from : {A : Type 0} → A → A → Lent A
-from b a = record { before = b; after = a }
 
 -- as many numbers as there are places
 pub first_told : (numbers told : List ℕ) (n : ℕ) → n ≡ min (length told) (length numbers) → take n numbers ++ drop n told ≡ told_in numbers told

@@ -7,7 +7,7 @@ use Rattle.std.proofs.lemmas.List.{length-replicate, length-map}
 use Rattle.strips.specs.Laws.Decision.{asked_yes, asked_no}
 use Rattle.strips.specs.declared.Task.{Task}
 use Rattle.outcome.specs.Refusal.{number_of, place_of}
-use Rattle.outcome.specs.Laws.Refusal.{number_some}
+use Rattle.outcome.specs.Laws.Refusal.{number_few, number_some}
 use Rattle.outcome.specs.declared.Refusal.{Refusal}
 use Rattle.task_format.specs.Deciders.{dec_at_most}
 use Rattle.task_format.specs.Parse.{Read, parse, accepted}
@@ -16,7 +16,7 @@ use Rattle.task_format.proofs.Places.{parse_place, parse_accepted}
 use Rattle.round_trip.specs.Theorems.{read_valid}
 use Rattle.search.specs.Reachable.{Fits}
 use Rattle.search.specs.Limits.{max_places}
-use Rattle.questions.specs.Lent.{Lent, over}
+use Rattle.questions.specs.Lent.{Lent, from, over}
 use Rattle.questions.specs.Asked.{no_to, yes_to, answered}
 use Rattle.questions.specs.Size.{SizesAllowed, shortest}
 use Rattle.questions.specs.Memory.{Memory, Slice}
@@ -29,7 +29,7 @@ use Rattle.pareto.specs.Layout.{entry_for, plans_for}
 use Rattle.pareto.specs.Laws.Unique.{front_unique}
 use Rattle.outcome.specs.declared.Entry.{Entry}
 use Rattle.report_text.specs.Report.{report_text, refusal_text}
-use Rattle.report_text.specs.Laws.Sizes.{number_few, refusal_few}
+use Rattle.report_text.specs.Laws.Sizes.{refusal_few}
 use Rattle.report.specs.declared.Written.{Written}
 use Rattle.report.specs.ReportCall.{Counts, counts, blank, ReportCall, returned}
 use Rattle.file_report.specs.TextCall.{places, room, plan_numbers, program_slices, unread, read_as, TextCall, Answered}
@@ -72,16 +72,21 @@ module _ (lines : List Line) where
   module _ (a : length lines ≤ room) where
     few_numbers : plan_numbers < length (plans_for lines) → lines_printed lines ≡ refusal_text 15 0
     unfolding lines_printed
-    few_numbers h = asked_yes (dec_at_most (length lines) room) a _ _ ∙ asked_no (dec_at_most (length (plans_for lines)) plan_numbers) (λ l. omega arith) _ _
+    few_numbers h = asked_yes (dec_at_most (length lines) room) a _ _
+        ∙ asked_no (dec_at_most (length (plans_for lines)) plan_numbers) (λ l. omega arith) _ _
 
     module _ (b : length (plans_for lines) ≤ plan_numbers) where
       few_bytes : output_bytes < length (report_text lines) → lines_printed lines ≡ refusal_text 16 0
       unfolding lines_printed
-      few_bytes h = asked_yes (dec_at_most (length lines) room) a _ _ ∙ asked_yes (dec_at_most (length (plans_for lines)) plan_numbers) b _ _ ∙ asked_no (dec_at_most (length (report_text lines)) output_bytes) (λ l. omega arith) _ _
+      few_bytes h = asked_yes (dec_at_most (length lines) room) a _ _
+          ∙ asked_yes (dec_at_most (length (plans_for lines)) plan_numbers) b _ _
+          ∙ asked_no (dec_at_most (length (report_text lines)) output_bytes) (λ l. omega arith) _ _
 
       report_listed : length (report_text lines) ≤ output_bytes → lines_printed lines ≡ report_text lines
       unfolding lines_printed
-      report_listed h = asked_yes (dec_at_most (length lines) room) a _ _ ∙ asked_yes (dec_at_most (length (plans_for lines)) plan_numbers) b _ _ ∙ asked_yes (dec_at_most (length (report_text lines)) output_bytes) h _ _
+      report_listed h = asked_yes (dec_at_most (length lines) room) a _ _
+          ∙ asked_yes (dec_at_most (length (plans_for lines)) plan_numbers) b _ _
+          ∙ asked_yes (dec_at_most (length (report_text lines)) output_bytes) h _ _
 
 -- where reach, lines, plans and text fit what is lent, the report of the front of the task that the text says is printed
 pub whole_report : {text x : List ℕ} {t : Task} {lines : List Line} → Prints text x → parse text ≡ accepted t → Fits t places → Front t lines
@@ -105,7 +110,9 @@ abbrev program_sizes : List ℕ
 program_sizes = length (replicate {A = ℕ} places 0) ∷ length (rows_of 4) ∷ length (rows_of 64) ∷ length (rows_of 8) ∷ []
 
 program_sizes_are : program_sizes ≡ places ∷ places ∷ places ∷ places ∷ []
-program_sizes_are = rw (length-replicate {A = ℕ} places 0, length-replicate places (replicate {A = ℕ} 4 0), length-replicate places (replicate {A = ℕ} 64 0), length-replicate places (replicate {A = ℕ} 8 0)) refl
+program_sizes_are =
+    let wide = λ (width : ℕ). length-replicate places (replicate {A = ℕ} width 0) in
+    rw (length-replicate {A = ℕ} places 0, wide 4, wide 64, wide 8) refl
 
 -- a workspace of what the program lends
 module _ (w : Lent Workspace) (lends : (slices_in w).before ≡ program_slices) where
@@ -133,18 +140,16 @@ entries_fit {ls} h e = omega (arith, h, length-map ls entry_for, length-replicat
 numbers_fit : {ls ls' : List Line} → length (plans_for ls) ≤ length (replicate {A = ℕ} plan_numbers 0) → ls ≡ ls' → length (plans_for ls') ≤ plan_numbers
 numbers_fit {ls} h e = omega (arith, h, length-replicate {A = ℕ} plan_numbers 0, ap (λ (l : List Line). length (plans_for l)) e)
 
-abbrev from : {A : Type 0} → A → A → Lent A
-from b a = record { before = b; after = a }
-
 module _ {text output : List ℕ} (long : length output ≡ output_bytes) (z : (parse text).number ≡ 0) where
   -- a refusal without a place
-  shown_no : (q : ℕ) {output' : List ℕ} {r : Returned Counts} → 1 ≤ q → r ≡ record { number = q; place = 0; values = counts 0 0 } → output' ≡ output → Prints text (refusal_text q 0)
-      → Shown text output output' r
+  shown_no : (q : ℕ) {output' : List ℕ} {r : Returned Counts} → 1 ≤ q → r ≡ record { number = q; place = 0; values = counts 0 0 } → output' ≡ output
+      → Prints text (refusal_text q 0) → Shown text output output' r
   shown_no q h e same p = rw e (shown_refusal h (omega arith) p same)
 
   -- the promise with what the program lends
   promise_shown : (w : Lent Workspace) → (slices_in w).before ≡ program_slices → {es : List Entry} {plans' output' : List ℕ} {r : Returned Counts}
-      → ReportCall (parse text).task w (from (replicate room blank) es) (from (replicate plan_numbers 0) plans') (from output output') r → Shown text output output' r
+      → ReportCall (parse text).task w (from (replicate room blank) es) (from (replicate plan_numbers 0) plans') (from output output') r
+      → Shown text output output' r
   promise_shown w lends (no_to a e) = absurd (a (sizes_right w lends))
   promise_shown w lends (yes_to _ (no_to a e)) = absurd (a (read_valid text (parse text).task (parse_accepted text z)))
   promise_shown w lends (yes_to _ (yes_to _ (no_to a e))) =
@@ -173,7 +178,8 @@ module _ {text output : List ℕ} (long : length output ≡ output_bytes) (z : (
       let fits = rw (sizes_shortest w lends) at f in
       let entries = entries_fit a.holds (front_unique (parse text).task a.found d.found) in
       let numbers = numbers_fit b.holds (front_unique (parse text).task b.found d.found) in
-      let bytes : length (report_text ls) ≤ output_bytes = omega (arith, c.holds, long, ap (λ (l : List Line). length (report_text l)) (front_unique (parse text).task c.found d.found)) in
+      let same = front_unique (parse text).task c.found d.found in
+      let bytes : length (report_text ls) ≤ output_bytes = omega (arith, c.holds, long, ap (λ (l : List Line). length (report_text l)) same) in
       let whole = report_listed ls entries numbers bytes in
       shown_report (ap (λ (u : Returned Counts). u.number) d.holds.returns)
       (record {
@@ -183,7 +189,8 @@ module _ {text output : List ℕ} (long : length output ≡ output_bytes) (z : (
         bytes = ap (λ (u : Returned Counts). u.values.bytes) d.holds.returns;
       })
 
-shown : {text output output' : List ℕ} {r : Returned Counts} → length output ≡ output_bytes → Answered (parse text) output output' r → Shown text output output' r
+shown : {text output output' : List ℕ} {r : Returned Counts} → length output ≡ output_bytes → Answered (parse text) output output' r
+    → Shown text output output' r
 shown {text} {output} {output'} {r} long x = of x.call
   where
     of : TextCall (parse text) x.work room (from (replicate plan_numbers 0) x.plans) (from output output') r → Shown text output output' r
@@ -204,7 +211,8 @@ pub record Refuses (text output output' : List ℕ) (q : Refusal) : Type 0 where
   pub prints : Prints text (refusal_text (number_of q) (place_of q))
   pub kept : output' ≡ output
 
-pub refused_prints : {text output output' : List ℕ} {q : Refusal} → length output ≡ output_bytes → Answered (parse text) output output' (returned (Err q)) → Refuses text output output' q
+pub refused_prints : {text output output' : List ℕ} {q : Refusal} → length output ≡ output_bytes → Answered (parse text) output output' (returned (Err q))
+    → Refuses text output output' q
 refused_prints {text} {output} {output'} {q = q} long a = of (shown {text = text} long a)
   where
     of : Shown text output output' (returned (Err q)) → Refuses text output output' q

@@ -7,7 +7,7 @@ use Rattle.outcome.specs.Refusal.{number_of, place_of}
 use Rattle.outcome.specs.Laws.Refusal.{number_some}
 use Rattle.outcome.specs.declared.Refusal.{Refusal}
 use Rattle.task_format.specs.Parse.{Read, accepted, refused as refused_text}
-use Rattle.questions.specs.Lent.{Lent}
+use Rattle.questions.specs.Lent.{Lent, from}
 use Rattle.questions.specs.Memory.{Memory, Slice}
 use Rattle.questions.specs.Asked.{no_to, yes_to, answered}
 use Rattle.questions.specs.Call.{Returned, Ends, Promise, refused}
@@ -21,9 +21,6 @@ use Rattle.report.specs.ReportCall.{Counts, report_call, blank, PrintCall, retur
 use Rattle.report.specs.Laws.Promise.{text_call_unique}
 use Rattle.file_report.specs.TextCall.{unread, read_as, TextCall}
 
-abbrev from : {A : Type 0} → A → A → Lent A
-from b a = record { before = b; after = a }
-
 -- all that is lent, but for entries
 pub record Same (r₁ r₂ : Returned Counts) (W₁ W₂ : List Slice) (P₁ P₂ T₁ T₂ : List ℕ) : Type 0 where
   pub returned : r₁ ≡ r₂
@@ -32,7 +29,8 @@ pub record Same (r₁ r₂ : Returned Counts) (W₁ W₂ : List Slice) (P₁ P�
   pub text : T₁ ≡ T₂
 
 -- a promise where the same is lent
-where_same : {t : Task} {b b' after : Memory} {r : Returned Counts} → b ≡ b' → Promise (report_call t) (left b after) r → Promise (report_call t) (left b' after) r
+where_same : {t : Task} {b b' after : Memory} {r : Returned Counts} → b ≡ b' → Promise (report_call t) (left b after) r
+    → Promise (report_call t) (left b' after) r
 where_same e x = rw (← e) x
 
 module _ (room : ℕ) (w₁ w₂ : Lent Workspace) {P P₁ P₂ T T₁ T₂ : List ℕ} {r₁ r₂ : Returned Counts} (lends : (slices_in w₁).before ≡ (slices_in w₂).before) where
@@ -42,7 +40,12 @@ module _ (room : ℕ) (w₁ w₂ : Lent Workspace) {P P₁ P₂ T T₁ T₂ : Li
   print_unique {t} a b =
       let start = ap (λ (s : List Slice). record { slices = s; entries = replicate room blank; plans = P; text = T }) lends in
       let same = text_call_unique report_text t (where_same start a.1) b.1 in
-      record { returned = same.0; slices = ap (λ (m : Memory). m.slices) same.1; plans = ap (λ (m : Memory). m.plans) same.1; text = ap (λ (m : Memory). m.text) same.1 }
+      record {
+        returned = same.0;
+        slices = ap (λ (m : Memory). m.slices) same.1;
+        plans = ap (λ (m : Memory). m.plans) same.1;
+        text = ap (λ (m : Memory). m.text) same.1;
+      }
 
   -- and so do two answers to one text
   pub text_unique : {read : Read} → TextCall read w₁ room (from P P₁) (from T T₁) r₁ → TextCall read w₂ room (from P P₂) (from T T₂) r₂
@@ -75,7 +78,8 @@ module _ {t : Task} {m : Lent Memory} {r : Returned Counts} (z : r.number ≡ 0)
       (take_at whole (drop (length whole) m.before.text) (length whole) refl)
       ∙ ap report_text (front_unique t d.found front)
 
-pub text_report : (room : ℕ) {read : Read} {w : Lent Workspace} {plans text : Lent (List ℕ)} {r : Returned Counts} → TextCall read w room plans text r → r.number ≡ 0
+pub text_report : (room : ℕ) {read : Read} {w : Lent Workspace} {plans text : Lent (List ℕ)} {r : Returned Counts}
+    → TextCall read w room plans text r → r.number ≡ 0
     → {lines : List Line} → Front read.task lines → take r.values.bytes text.after ≡ report_text lines
 text_report room (unread f x) z g = absurd (omega (arith, z, f, ap (λ (y : Returned Counts). y.number) x.returns))
 text_report room (read_as y a) z g = promise_report z g a.1

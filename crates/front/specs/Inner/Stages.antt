@@ -9,14 +9,14 @@ use Rattle.questions.specs.Call.{Returned, Asks, done, refused}
 use Rattle.questions.specs.Workspace.{Cleared, RowsKept}
 use Rattle.questions.specs.declared.workspace.Workspace.{Workspace}
 use Rattle.pareto.specs.Layout.{plans_for}
-use Rattle.planner.specs.Searches.{OrTooMany}
+use Rattle.planner.specs.Searches.{Fitted}
 use Rattle.front_lines.specs.Lines.{Chosen}
 use Rattle.front.specs.FrontCall.{front_call}
 use Rattle.front.specs.Asked.{InRows, RefusedLeft, DoneLeft}
 
 -- so many rows are noted, whose lines are the front; or the states do not fit
 abbrev pub LinesFound : Task → ℕ → List (List ℕ) → Result ℕ Refusal → Type 0
-LinesFound t n R r = OrTooMany (λ k. Fits t n × Chosen t R k) (Fits t n) r
+LinesFound t n R r = Fitted (λ k. Fits t n × Chosen t R k) (Fits t n) r
 
 -- the questions about the lines
 abbrev pub lines_asks : List ℕ
@@ -29,7 +29,8 @@ places_room n entries numbers = record { sizes = n ∷ []; entries = entries; pl
 -- what is returned, and what the rows hold then
 abbrev pub LinesAsked : Task → (n entries numbers : ℕ) → List (List ℕ) → Returned ℕ → Type 0
 LinesAsked t n entries numbers R r =
-    Asks (front_call t) lines_asks (places_room n entries numbers) (λ q. r ≡ refused (front_call t) q) (λ lines. (r ≡ done (front_call t) lines) × InRows R lines × (length lines ≤ entries) × (length (plans_for lines) ≤ numbers))
+    Asks (front_call t) lines_asks (places_room n entries numbers) (λ q. r ≡ refused (front_call t) q)
+    (λ lines. (r ≡ done (front_call t) lines) × InRows R lines × (length lines ≤ entries) × (length (plans_for lines) ≤ numbers))
 
 -- all is cleared, but for the rows of lines
 abbrev pub UsedCleared : Result ℕ Refusal → Lent Workspace → Type 0

@@ -1,6 +1,6 @@
 -- The stages before the front call, question by question.
-use Rattle.std.specs.Prelude.{◌≡◌, refl, false, List, [], ◌∷◌, map, ℕ, ◌≤◌, ◌<◌, length, take, Result, Ok, Err, MatchResult}
-use Rattle.std.proofs.Common.{ap, ◌∙◌, arith, length-take-le}
+use Rattle.std.specs.Prelude.{◌≡◌, refl, false, List, [], ◌∷◌, map, ℕ, ◌≤◌, ◌<◌, length, Result, Ok, Err, MatchResult}
+use Rattle.std.proofs.Common.{ap, ◌∙◌, arith}
 use Rattle.std.proofs.lemmas.List.{length-map}
 use Rattle.strips.specs.declared.Task.{Task}
 use Rattle.outcome.specs.Laws.Refusal.{number_some}
@@ -14,15 +14,15 @@ use Rattle.rows.specs.Laws.Cleared.{everywhere_same, zeros_same}
 use Rattle.questions.specs.Memory.{is_one_of, before_use}
 use Rattle.questions.specs.Asked.{no_to, yes_to, answered}
 use Rattle.questions.specs.Call.{Returned, refused}
+use Rattle.questions.specs.Laws.Asked.{asked_map}
 use Rattle.questions.specs.Laws.Workspace.{from_to, cleared_on}
 use Rattle.questions.specs.Workspace.{SameSlices, Cleared, RowsKept}
 use Rattle.questions.specs.declared.workspace.Workspace.{Workspace}
 use Rattle.pareto.specs.Front.{Line, Front}
 use Rattle.pareto.specs.Layout.{entry_for, plans_for}
 use Rattle.pareto.specs.Laws.Unique.{not_empty}
-use Rattle.planner.specs.Reading.{notes}
-use Rattle.planner.specs.Laws.Notes.{notes_length}
-use Rattle.front_lines.specs.Lines.{line_at, lines_in, Chosen}
+use Rattle.front_lines.specs.Lines.{lines_in, Chosen}
+use Rattle.front_lines.specs.Laws.Listed.{listed_length}
 use Rattle.front.specs.FrontCall.{front_call, returned}
 use Rattle.front.specs.Asked.{RefusedLeft}
 use Rattle.front.specs.Inner.Stages.{LinesAsked, UsedCleared, LinesListed}
@@ -31,10 +31,6 @@ use Rattle.front.specs.Inner.Stages.{LinesAsked, UsedCleared, LinesListed}
 pub one_size : (n : ℕ) → n ≤ max_places → shortest (n ∷ []) ≡ n
 unfolding shortest
 one_size n h = omega arith
-
-pub lines_length : (R : List (List ℕ)) (k : ℕ) → k ≤ length R → length (lines_in R k) ≡ k
-unfolding lines_in
-lines_length R k h = length-map (take k (notes R)) (line_at R) ∙ length-take-le k (notes R) (omega (arith, notes_length R))
 
 module _ (t : Task) (n entries numbers : ℕ) (R : List (List ℕ)) (small : n ≤ max_places) where
   -- question 13
@@ -46,22 +42,24 @@ module _ (t : Task) (n entries numbers : ℕ) (R : List (List ℕ)) (small : n �
     fits = rw (one_size n small) f
 
     count : length (map entry_for (lines_in R k)) ≡ k
-    count = length-map (lines_in R k) entry_for ∙ lines_length R k c.listed.inside
+    count = length-map (lines_in R k) entry_for ∙ listed_length R k c.listed
 
     -- question 14
     pub entries_refused : {r : Returned ℕ} → entries < k → r ≡ refused (front_call t) 14 → LinesAsked t n entries numbers R r
     entries_refused h e = yes_to {q = 13} fits (no_to {q = 14} (record { it = lines_in R k; found = c.front; holds = λ x. omega (arith, x, count) }) e)
 
     -- question 15
-    pub plans_refused : {r : Returned ℕ} → k ≤ entries → numbers < length (plans_for (lines_in R k)) → r ≡ refused (front_call t) 15 → LinesAsked t n entries numbers R r
+    pub plans_refused : {r : Returned ℕ} → k ≤ entries → numbers < length (plans_for (lines_in R k)) → r ≡ refused (front_call t) 15
+        → LinesAsked t n entries numbers R r
     plans_refused h l e =
         yes_to {q = 13} fits (yes_to {q = 14} (record { it = lines_in R k; found = c.front; holds = omega (arith, count) })
         (no_to {q = 15} (record { it = lines_in R k; found = c.front; holds = λ x. omega (arith, x) }) e))
 
     -- none is refused
-    pub lines_done : {r : Returned ℕ} → k ≤ entries → length (plans_for (lines_in R k)) ≤ numbers → r ≡ record { number = 0; place = 0; values = k } → LinesAsked t n entries numbers R r
+    pub lines_done : {r : Returned ℕ} → k ≤ entries → length (plans_for (lines_in R k)) ≤ numbers → r ≡ record { number = 0; place = 0; values = k }
+        → LinesAsked t n entries numbers R r
     lines_done h l e =
-        let long = lines_length R k c.listed.inside in
+        let long = listed_length R k c.listed in
         yes_to {q = 13} fits (yes_to {q = 14} (record { it = lines_in R k; found = c.front; holds = omega (arith, count) })
         (yes_to {q = 15} (record { it = lines_in R k; found = c.front; holds = l })
         (answered (record {
@@ -69,6 +67,9 @@ module _ (t : Task) (n entries numbers : ℕ) (R : List (List ℕ)) (small : n �
           found = c.front;
           holds = (rw long e, record { same = ap (lines_in R) long; listed = rw long c.listed }, omega (arith, long), l);
         }))))
+
+-- whichever of them is the first that gets no, or none is
+pub ruleset line_questions = (states_refused, entries_refused, plans_refused, lines_done)
 
 -- a front has lines
 pub some_lines : {t : Task} {lines : List Line} → Front t lines → 1 ≤ length lines
@@ -84,7 +85,8 @@ after_success : (P Q : Type 0) (r : Result ℕ Refusal) → MatchResult r (λ k.
 after_success P Q (Ok k) w z = w
 after_success P Q (Err q) w z = absurd (omega (arith, z, number_some q))
 
-module _ (t : Task) (w : Lent Workspace) (r : Result ℕ Refusal) (w₁ : Workspace) (same : SameSlices (from_to w.before w₁)) (u : UsedCleared r (from_to w₁ w.after)) where
+module _ (t : Task) (w : Lent Workspace) (r : Result ℕ Refusal) (w₁ : Workspace)
+    (same : SameSlices (from_to w.before w₁)) (u : UsedCleared r (from_to w₁ w.after)) where
   abbrev Kept : Type 0
   Kept = RowsKept (from_to w₁ w.after)
 
@@ -97,12 +99,11 @@ module _ (t : Task) (w : Lent Workspace) (r : Result ℕ Refusal) (w₁ : Worksp
       record { some = some; returns = e; slices = rw b clear.slices }
 
   pub listed_left : (n entries numbers : ℕ) → LinesAsked t n entries numbers w₁.rows.now (returned r) → LinesListed t n entries numbers w (returned r)
-  listed_left n entries numbers (no_to a e) = no_to {q = 13} a (refused_left 13 refl (omega arith) e)
-  listed_left n entries numbers (yes_to f (no_to a e)) = yes_to {q = 13} f (no_to {q = 14} a (refused_left 14 refl (omega arith) e))
-  listed_left n entries numbers (yes_to f (yes_to a (no_to b e))) = yes_to {q = 13} f (yes_to {q = 14} a (no_to {q = 15} b (refused_left 15 refl (omega arith) e)))
-  listed_left n entries numbers (yes_to f (yes_to a (yes_to b (answered d)))) =
+  listed_left n entries numbers = asked_map
+      (refused_left 13 refl (omega arith), (refused_left 14 refl (omega arith), (refused_left 15 refl (omega arith), tt)))
+      (λ d.
       let kept = after_success Kept Clear r u (ap (λ (x : Returned ℕ). x.number) d.holds.0) in
-      yes_to {q = 13} f (yes_to {q = 14} a (yes_to {q = 15} b (answered (record {
+      record {
         it = d.it;
         found = d.found;
         holds = record {
@@ -117,4 +118,4 @@ module _ (t : Task) (w : Lent Workspace) (r : Result ℕ Refusal) (w₁ : Worksp
           entries_fit = d.holds.2;
           plans_fit = d.holds.3;
         };
-      }))))
+      })

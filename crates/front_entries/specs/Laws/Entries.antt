@@ -1,54 +1,34 @@
 -- Entries stored one after another, and the rows cleared then.
 use Rattle.std.specs.Prelude.{◌≡◌, refl, List, [], ◌∷◌, ◌++◌, map, ℕ, zero, suc, ◌+◌, ◌≤◌, ◌<◌, length, get_or, set, take, drop, replicate}
-use Rattle.std.proofs.Common.{sym, ap, ◌∙◌, append_assoc, add-one, arith, length-take, length-set, take-suc, drop-cons}
-use Rattle.std.proofs.lemmas.Simd.{map-map}
+use Rattle.std.proofs.Common.{sym, ap, ◌∙◌, append_assoc, add-one, arith, length-take, take-suc, drop-cons, take_all}
 use Rattle.std.proofs.lemmas.List.{map-append, length-map, set_at}
 use Rattle.outcome.specs.declared.Entry.{Entry}
 use Rattle.rows.specs.Cleared.{everywhere}
-use Rattle.rows.specs.Laws.Cleared.{everywhere_length}
+use Rattle.pareto.specs.Front.{Line}
 use Rattle.pareto.specs.Layout.{entry_for}
-use Rattle.planner.specs.Reading.{notes}
-use Rattle.planner.specs.Laws.Notes.{notes_length}
-use Rattle.front_lines.specs.Lines.{line_at, note_at, lines_in}
-use Rattle.front_entries.specs.Entries.{entry_in, stored, rows_left}
+use Rattle.front_lines.specs.Lines.{line_number}
+use Rattle.front_entries.specs.Entries.{rows_left}
 
-pub stored_length : (es : List Entry) (R : List (List ℕ)) (n : ℕ) → length (stored es R n) ≡ length es
-unfolding stored
-stored_length es R zero = refl
-stored_length es R (suc n) = length-set (stored es R n) n (entry_in R n) ∙ stored_length es R n
+module _ (lines : List Line) (es : List Entry) where
+  -- the entries of the first k lines are stored, and the others are as they were
+  abbrev pub stored : ℕ → List Entry
+  stored k = map entry_for (take k lines) ++ drop k es
 
--- the entry of one line more
-pub stored_more : (es : List Entry) {es' : List Entry} (R : List (List ℕ)) (k : ℕ) (e : Entry) → es' ≡ stored es R k → e ≡ entry_for (line_at R (note_at R k))
-    → set es' k e ≡ stored es R (k + 1)
-unfolding stored entry_in
-stored_more es R k e a b = rw (add-one, a, b) refl
+  -- the entry of one line more
+  pub stored_more : {es' : List Entry} (k : ℕ) (e : Entry) → es' ≡ stored k → e ≡ entry_for (line_number lines k) → k < length lines → k < length es
+      → set es' k e ≡ stored (k + 1)
+  stored_more k e now is h l =
+      let this = line_number lines k in
+      let long : length (map entry_for (take k lines)) ≡ k = length-map (take k lines) entry_for ∙ length-take k lines ∙ omega arith in
+      let cut = drop-cons es k (entry_for this) l in
+      let next : take (suc k) lines ≡ take k lines ++ (this ∷ []) = take-suc lines k _ h in
+      rw (now, is, add-one k, cut, next, map-append entry_for (take k lines) (this ∷ []))
+      (set_at (map entry_for (take k lines)) (get_or es k (entry_for this)) (drop (suc k) es) (entry_for this) k long
+      ∙ sym (append_assoc (map entry_for (take k lines)) (entry_for this ∷ []) (drop (suc k) es)))
 
--- a list that is written from the front, one place after another
-front_more : {A B : Type 0} (f : B → A) (d : B) (xs : List B) (old : List A) (k : ℕ) → k < length xs → k < length old
-    → set (map f (take k xs) ++ drop k old) k (f (get_or xs k d)) ≡ map f (take (suc k) xs) ++ drop (suc k) old
-front_more f d xs old k h l =
-    let long : length (map f (take k xs)) ≡ k = length-map (take k xs) f ∙ length-take k xs ∙ omega arith in
-    rw (
-      drop-cons old k (f d) l,
-      set_at (map f (take k xs)) (get_or old k (f d)) (drop (suc k) old) (f (get_or xs k d)) k long,
-      take-suc xs k d h,
-      map-append f
-          (take k xs) (get_or xs k d ∷ []),
-    )
-    (sym (append_assoc (map f (take k xs)) (f (get_or xs k d) ∷ []) (drop (suc k) old)))
-
-by_notes : (es : List Entry) (R : List (List ℕ)) (n : ℕ) → n ≤ length es → n ≤ length R
-    → stored es R n ≡ map (λ (i : ℕ). entry_for (line_at R i)) (take n (notes R)) ++ drop n es
-unfolding stored entry_in
-by_notes es R zero h l = refl
-by_notes es R (suc n) h l =
-    rw (by_notes es R n (omega arith) (omega arith))
-    (front_more (λ (i : ℕ). entry_for (line_at R i)) 0 (notes R) es n (omega (arith, notes_length R)) (omega arith))
-
--- the entries of the lines, then those that stood behind
-pub stored_is : (es : List Entry) (R : List (List ℕ)) (n : ℕ) → n ≤ length es → n ≤ length R → stored es R n ≡ map entry_for (lines_in R n) ++ drop n es
-unfolding lines_in
-stored_is es R n h l = by_notes es R n h l ∙ ap (λ (xs : List Entry). xs ++ drop n es) (sym (map-map entry_for (line_at R) (take n (notes R))))
+  -- of all lines
+  pub stored_all : (k n : ℕ) → k ≡ n → length lines ≡ n → stored k ≡ map entry_for lines ++ drop n es
+  stored_all k n e l = rw e (ap (λ (ls : List Line). map entry_for ls ++ drop n es) (take_all n lines (omega arith)))
 
 -- no lines, nothing cleared
 pub none_left : (R : List (List ℕ)) (n : ℕ) → n ≤ 0 → rows_left R n ≡ R
@@ -60,8 +40,3 @@ pub left_cleared : (R : List (List ℕ)) (n : ℕ) → 1 ≤ n → rows_left R n
 unfolding rows_left
 left_cleared R zero h = absurd (omega arith)
 left_cleared R (suc n) h = refl
-
-pub left_length : (R : List (List ℕ)) (n : ℕ) → length (rows_left R n) ≡ length R
-unfolding rows_left
-left_length R zero = refl
-left_length R (suc n) = everywhere_length (replicate 8 0) R

@@ -16,15 +16,16 @@ use Rattle.search.specs.Rows.{Among}
 use Rattle.search.specs.Laws.Response.{response_unique}
 use Rattle.search.specs.Laws.Rows.{mem_among, take_among, among_take}
 use Rattle.pareto.specs.Front.{Attacks, Inflicts, Line, Stands, Lower, Rising, nil, cons, Covered, Front}
-use Rattle.planner.specs.Reading.{price_at, answer_at, rank_at, settled_at, leader_plan_at, follower_plan_at, notes, SameReading}
+use Rattle.planner.specs.Reading.{price_at, answer_at, rank_at, settled_at, leader_plan_at, follower_plan_at, notes, reading_at, SameReading}
 use Rattle.planner.specs.Solved.{Solved}
 use Rattle.planner.specs.Laws.Notes.{notes_length}
 use Rattle.planner.specs.Laws.Reading.{readable_row}
-use Rattle.front_lines.specs.Lines.{line_at, note_at, lines_in, Chosen}
-use Rattle.front_lines.specs.Inner.Selection.{rating_of, Serves, Selected}
+use Rattle.front_lines.specs.Lines.{line_of, line_at, note_at, lines_in, Chosen}
+use Rattle.front_lines.specs.Inner.Selection.{Serves, Selected}
 
 -- lines that rise from place to place
-rising_lines : (line : ℕ → Line) (xs : List ℕ) → ((a b : ℕ) → a < b → b < length xs → Lower (line (get_or xs a 0)) (line (get_or xs b 0))) → Rising (map line xs)
+rising_lines : (line : ℕ → Line) (xs : List ℕ)
+    → ((a b : ℕ) → a < b → b < length xs → Lower (line (get_or xs a 0)) (line (get_or xs b 0))) → Rising (map line xs)
 rising_lines line [] h = nil
 rising_lines line (x ∷ xs) h =
     cons (λ y m. of y (Memᴰ.of_map line xs m)) (rising_lines line xs (λ a b u w. h (suc a) (suc b) (omega arith) (omega arith)))
@@ -35,18 +36,14 @@ rising_lines line (x ∷ xs) h =
     of : (y : Line) → (k : ℕ) × Memᴰ k xs × (line k ≡ y) → Lower (line x) y
     of y k = rw k.2 at (to k.0 (mem_among k.1))
 
--- rows that say the same have the same ratings and lines
+-- rows that say the same have the same lines
 module _ {R R' : List (List ℕ)} (e : SameReading R R') where
-  pub same_rating : rating_of R' ≡ rating_of R
-  unfolding rating_of
-  same_rating = build (fun_ext e.price) (fun_ext e.answer) (fun_ext e.rank)
-    where
-      build : price_at R' ≡ price_at R → answer_at R' ≡ answer_at R → rank_at R' ≡ rank_at R → rating_of R' ≡ rating_of R
-      build p a r = rw (p, a, r) refl
+  pub same_readings : reading_at R' ≡ reading_at R
+  same_readings = fun_ext e.reading
 
   same_line : (i : ℕ) → line_at R' i ≡ line_at R i
   unfolding line_at
-  same_line i = rw (e.price i, e.answer i, e.leader_plan i, e.follower_plan i) refl
+  same_line i = ap line_of (e.reading i)
 
   pub same_lines : (count : ℕ) → lines_in R' count ≡ map (line_at R) (take count (notes R'))
   unfolding lines_in
@@ -89,9 +86,9 @@ module _ {t : Task} {R : List (List ℕ)} {m : ℕ} (solved : Solved t R m) wher
       by_price (inl e) = by_rank e (eq-or-lt_of_le (r e))
       by_price (inr z) = cheaper (omega (arith, solved.price i h, solved.price j l))
 
-  module _ (X : List ℕ) (count : ℕ) (room : count ≤ length X) (sel : Selected (rating_of R) (settled_at R) (λ k. get_or X k 0) m m count) where
+  module _ (X : List ℕ) (count : ℕ) (room : count ≤ length X) (sel : Selected (reading_at R) (settled_at R) (λ k. get_or X k 0) m m count) where
     -- each row was settled, so a noted row serves for it
-    served : (j : ℕ) → j < m → (k : ℕ) × (k < count) × Serves (rating_of R) (get_or X k 0) j
+    served : (j : ℕ) → j < m → (k : ℕ) × (k < count) × Serves (reading_at R (get_or X k 0)) (reading_at R j)
     served j h =
         let p = solved.each j h in
         let x = sel.served p.0 p.1 in
@@ -99,19 +96,18 @@ module _ {t : Task} {R : List (List ℕ)} {m : ℕ} (solved : Solved t R m) wher
 
     -- of the rows with one answer, a noted one has the least leader plan
     noted_least : (k j : ℕ) → k < count → j < m → answer_at R j ≡ answer_at R (get_or X k 0) → PlanAtMost t R (get_or X k 0) j
-    unfolding rating_of
     noted_least k j h l e = of (served j l)
       where
-        by : (n : ℕ) → n < count → Serves (rating_of R) (get_or X n 0) j → (n < k) ⊎ (n ≡ k) ⊎ (k < n) → PlanAtMost t R (get_or X k 0) j
+        by : (n : ℕ) → n < count → Serves (reading_at R (get_or X n 0)) (reading_at R j) → (n < k) ⊎ (n ≡ k) ⊎ (k < n) → PlanAtMost t R (get_or X k 0) j
         by n u s (inl z) = absurd (below_not (sel.rising n k z h).answer (rw e at s.answer))
         by n u s (inr (inl z)) =
-            let w : Serves (rating_of R) (get_or X k 0) j = rw z at s in
+            let w : Serves (reading_at R (get_or X k 0)) (reading_at R j) = rw z at s in
             at_most (get_or X k 0) j (sel.row k h) l w.price (λ p. w.tie p (sym e))
         by n u s (inr (inr z)) =
             let w = sel.rising k n z u in
             at_most (get_or X k 0) j (sel.row k h) l (omega (arith, w.price, s.price)) (λ p. absurd (omega (arith, w.price, s.price)))
 
-        of : (n : ℕ) × (n < count) × Serves (rating_of R) (get_or X n 0) j → PlanAtMost t R (get_or X k 0) j
+        of : (n : ℕ) × (n < count) × Serves (reading_at R (get_or X n 0)) (reading_at R j) → PlanAtMost t R (get_or X k 0) j
         of s = by s.0 s.1 s.2 (trichotomy s.0 k)
 
     stands : (k : ℕ) → k < count → Stands t (line_at R (get_or X k 0))
@@ -139,7 +135,7 @@ module _ {t : Task} {R : List (List ℕ)} {m : ℕ} (solved : Solved t R m) wher
             at_most_trans (leader_actions t) (noted_least k y.at h y.within answer) y.least
 
     covered : (q : List ℕ) (s : ℕ) → Row q s → Covered t (map (line_at R) (take count X)) (cost (leader_actions t) q) s
-    unfolding line_at rating_of
+    unfolding line_at
     covered q s y =
         let x = served y.at y.within in
         record {
@@ -152,7 +148,7 @@ module _ {t : Task} {R : List (List ℕ)} {m : ℕ} (solved : Solved t R m) wher
         }
 
     lower : (a b : ℕ) → a < b → b < count → Lower (line_at R (get_or X a 0)) (line_at R (get_or X b 0))
-    unfolding line_at rating_of
+    unfolding line_at
     lower a b h l = let u = sel.rising a b h l in record { price = u.price; answer = u.answer }
 
     -- the lines of the noted rows are the front
@@ -172,7 +168,7 @@ module _ {t : Task} {R : List (List ℕ)} {m : ℕ} (solved : Solved t R m) wher
         of l i = rw i.2 at (at_place i.0 (take_among X count room i.1))
 
   -- the notes of rows that say the same as those that were solved, selected over all of these
-  pub chosen : (R' : List (List ℕ)) (count : ℕ) → SameReading R R' → Selected (rating_of R) (settled_at R) (note_at R') m m count → Chosen t R' count
+  pub chosen : (R' : List (List ℕ)) (count : ℕ) → SameReading R R' → Selected (reading_at R) (settled_at R) (note_at R') m m count → Chosen t R' count
   chosen R' count e sel =
       let inside : count ≤ length R' = omega (arith, sel.few, rows_inside, e.size) in
       record {

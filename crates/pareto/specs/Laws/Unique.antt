@@ -30,7 +30,10 @@ module _ (t : Task) where
       of : (x ≡ z) ⊎ Memᴰ x zs → (y ≡ z) ⊎ Memᴰ y zs → (Memᴰ x zs → Memᴰ y zs → x ≡ y) → x ≡ y
       of (inl e) (inl g) k = e ∙ sym g
       of (inl e) (inr g) k = absurd (below_not (rw (← e) at (f y g).answer) c.1)
-      of (inr e) (inl g) k = absurd (let l : z.price < x.price = (f x e).price in let q : y.price ≡ z.price = ap (λ (v : Line). v.price) g in omega (arith, c.0))
+      of (inr e) (inl g) k =
+          let l : z.price < x.price = (f x e).price in
+          let q : y.price ≡ z.price = ap (λ (v : Line). v.price) g in
+          absurd (omega (arith, c.0))
       of (inr e) (inr g) k = k e g
 
   -- a pair that some leader plan attains
@@ -56,7 +59,9 @@ module _ (t : Task) where
 
     -- the pair of a line is attained
     pub attained : {l : Line} → Memᴰ l xs → Attained l.price l.answer
-    attained {l} h = let s = front.each l h in record { leader_plan = l.leader_plan; end = s.end; plan = l.follower_plan; attacks = s.attacks; costs = s.costs; response = s.response }
+    attained {l} h =
+        let s = front.each l h in
+        record { leader_plan = l.leader_plan; end = s.end; plan = l.follower_plan; attacks = s.attacks; costs = s.costs; response = s.response }
 
     pub not_empty : (xs ≡ []) → ⊥
     not_empty e = let c = front.covered [] t.initial done in Memᴰ.not-nil (rw e at c.listed)
@@ -105,7 +110,9 @@ module _ (t : Task) where
   same_list_lem (x ∷ xs) [] a b f g = absurd (Memᴰ.not-nil (f x (Memᴰ.head refl)))
   same_list_lem (x ∷ xs) (y ∷ ys) (cons lx rx) (cons ly ry) f g =
       let e : x ≡ y = heads (Memᴰ.cases_cons (f x (Memᴰ.head refl))) (Memᴰ.cases_cons (g y (Memᴰ.head refl))) in
-      let r : xs ≡ ys = same_list_lem xs ys rx ry (λ z h. down z x y (lx z h) e (Memᴰ.cases_cons (f z (Memᴰ.tail h)))) (λ z h. down z y x (ly z h) (sym e) (Memᴰ.cases_cons (g z (Memᴰ.tail h)))) in
+      let r : xs ≡ ys = same_list_lem xs ys rx ry
+      (λ z h. down z x y (lx z h) e (Memᴰ.cases_cons (f z (Memᴰ.tail h))))
+      (λ z h. down z y x (ly z h) (sym e) (Memᴰ.cases_cons (g z (Memᴰ.tail h)))) in
       build e r
     where
       build : x ≡ y → xs ≡ ys → x ∷ xs ≡ y ∷ ys

@@ -28,5 +28,6 @@ module _ (l : Line) where
       ap (λ (p : List ℕ). line_of e p (take e.follower_steps (drop e.leader_steps (l.leader_plan ++ (l.follower_plan ++ others)))))
       (take_at l.leader_plan (l.follower_plan ++ others) e.leader_steps first)
       ∙ ap (λ (q : List ℕ). line_of e l.leader_plan q)
-      (ap (take e.follower_steps) (drop_at l.leader_plan (l.follower_plan ++ others) e.leader_steps first) ∙ take_at l.follower_plan others e.follower_steps second)
+      (ap (take e.follower_steps) (drop_at l.leader_plan (l.follower_plan ++ others) e.leader_steps first)
+      ∙ take_at l.follower_plan others e.follower_steps second)
       ∙ entry_line e l is

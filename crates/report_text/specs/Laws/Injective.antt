@@ -37,7 +37,8 @@ closed (n ∷ ns) = numeral n ++ comma ∷ closed ns
 further_closed : (ns : List ℕ) → further_text ns ++ (comma ∷ []) ≡ comma ∷ closed ns
 unfolding further_text closed
 further_closed [] = refl
-further_closed (n ∷ ns) = ap (λ (l : List ℕ). comma ∷ l) (append_assoc (numeral n) (further_text ns) (comma ∷ []) ∙ ap (λ (l : List ℕ). numeral n ++ l) (further_closed ns))
+further_closed (n ∷ ns) = ap (λ (l : List ℕ). comma ∷ l)
+    (append_assoc (numeral n) (further_text ns) (comma ∷ []) ∙ ap (λ (l : List ℕ). numeral n ++ l) (further_closed ns))
 
 plan_closed : (n : ℕ) (ns : List ℕ) → plan_text (n ∷ ns) ++ (comma ∷ []) ≡ closed (n ∷ ns)
 unfolding plan_text closed
@@ -99,7 +100,8 @@ printed_cut key v w x y p q e =
 
 -- the text of a line and what follows
 pub four : (l : Line) (x : List ℕ) → line_text l ++ x
-    ≡ printed price_key (numeral l.price) ++ (printed answer_key (answer_text l.answer) ++ (printed outages_key (plan_text l.leader_plan) ++ (printed moves_key (plan_text l.follower_plan) ++ x)))
+    ≡ printed price_key (numeral l.price)
+    ++ (printed answer_key (answer_text l.answer) ++ (printed outages_key (plan_text l.leader_plan) ++ (printed moves_key (plan_text l.follower_plan) ++ x)))
 unfolding line_text
 four l x = simp append_assoc
 

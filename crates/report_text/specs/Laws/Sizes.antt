@@ -1,24 +1,18 @@
 -- The bytes of a front's text, part by part.
-use Rattle.std.specs.Prelude.{◌≡◌, refl, List, [], ◌∷◌, ◌++◌, ℕ, ◌+◌, ◌-◌, ◌*◌, ◌≤◌, ◌<◌, length, get_or, drop}
+use Rattle.std.specs.Prelude.{◌≡◌, refl, List, [], ◌∷◌, ◌++◌, ℕ, ◌+◌, ◌*◌, ◌≤◌, ◌<◌, length, get_or, drop}
 use Rattle.std.proofs.Common.{sym, ap, ◌∙◌, arith, add-one, length-append, drop-cons}
-use Rattle.std.proofs.lemmas.List.{get_or_past}
 use Rattle.outcome.specs.Limits.{max_number}
 use Rattle.outcome.specs.Answer.{Value, minutes, none, value_of}
-use Rattle.outcome.specs.Refusal.{number_of, place_of}
-use Rattle.outcome.specs.Laws.Refusal.{refusal_of, refusal_of_lem}
-use Rattle.outcome.specs.declared.Refusal.{Refusal}
-use Rattle.outcome.specs.declared.Refusal.TheVariants.{TextTooLong}
-use Rattle.task_format.specs.Deciders.{dec_at_most}
 use Rattle.task_format.specs.Text.{newline, comma}
 use Rattle.task_format.specs.Lines.{outages_key, moves_key}
 use Rattle.pareto.specs.Front.{Line}
 use Rattle.outcome.specs.declared.Entry.{Entry}
 use Rattle.pareto.specs.Layout.{answer_for, entry_for}
-use Rattle.report_text.specs.Report.{entries_key, price_key, answer_key, numeral, further_text, plan_text, answer_text, printed, line_text, lines_text, head_text, report_text, refused_key, line_key, refusal_text}
+use Rattle.report_text.specs.Report.{entries_key, price_key, answer_key, numeral, further_text, plan_text, answer_text, printed}
+use Rattle.report_text.specs.Report.{line_text, lines_text, head_text, report_text, refused_key, line_key, refusal_text}
 use Rattle.report_text.specs.Entries.{line_of, entry_bytes}
 use Rattle.text_output.specs.Puts.{number_digits}
-use Rattle.report_text.specs.Laws.Numerals.{numeral_short}
-use Rattle.report_text.specs.Laws.Numerals as N
+use Rattle.report_text.specs.Laws.Numerals.{numeral_short, number_few}
 
 -- ---- numbers
 
@@ -27,12 +21,15 @@ digits_one n h = ap length (numeral_short n h)
 
 -- ---- plans
 
-pub further_turn : (plan : List ℕ) (i : ℕ) → i < length plan → further_text (drop i plan) ≡ comma ∷ (numeral (get_or plan i 0) ++ further_text (drop (i + 1) plan))
+pub further_turn : (plan : List ℕ) (i : ℕ) → i < length plan
+    → further_text (drop i plan) ≡ comma ∷ (numeral (get_or plan i 0) ++ further_text (drop (i + 1) plan))
 unfolding further_text
 further_turn plan i h = rw (add-one i, drop-cons plan i 0 h) refl
 
-pub further_length : (plan : List ℕ) (i : ℕ) → i < length plan → length (further_text (drop i plan)) ≡ 1 + length (numeral (get_or plan i 0)) + length (further_text (drop (i + 1) plan))
-further_length plan i h = ap length (further_turn plan i h) ∙ omega (arith, length-append (numeral (get_or plan i 0)) (further_text (drop (i + 1) plan)))
+pub further_length : (plan : List ℕ) (i : ℕ) → i < length plan
+    → length (further_text (drop i plan)) ≡ 1 + length (numeral (get_or plan i 0)) + length (further_text (drop (i + 1) plan))
+further_length plan i h = ap length (further_turn plan i h)
+    ∙ omega (arith, length-append (numeral (get_or plan i 0)) (further_text (drop (i + 1) plan)))
 
 -- ---- lines
 
@@ -41,7 +38,9 @@ unfolding printed
 printed_length key v = omega (arith, length-append key (v ++ (newline ∷ [])), length-append v (newline ∷ []))
 
 pub four_length : (l : Line) → length (line_text l)
-    ≡ length (printed price_key (numeral l.price)) + (length (printed answer_key (answer_text l.answer)) + (length (printed outages_key (plan_text l.leader_plan)) + length (printed moves_key (plan_text l.follower_plan))))
+    ≡ length (printed price_key (numeral l.price))
+    + (length (printed answer_key (answer_text l.answer))
+    + (length (printed outages_key (plan_text l.leader_plan)) + length (printed moves_key (plan_text l.follower_plan))))
 unfolding line_text
 four_length l =
     let price = printed price_key (numeral l.price) in
@@ -50,7 +49,8 @@ four_length l =
     let moves = printed moves_key (plan_text l.follower_plan) in
     omega (arith, length-append price (answer ++ (outages ++ moves)), length-append answer (outages ++ moves), length-append outages moves)
 
-line_length : (l : Line) → length (line_text l) ≡ 31 + length (numeral l.price) + length (answer_text l.answer) + length (plan_text l.leader_plan) + length (plan_text l.follower_plan)
+line_length : (l : Line) → length (line_text l)
+    ≡ 31 + length (numeral l.price) + length (answer_text l.answer) + length (plan_text l.leader_plan) + length (plan_text l.follower_plan)
 line_length l =
     omega (
       arith,
@@ -81,7 +81,8 @@ entry_line e l is =
       follower_plan = l.follower_plan;
     }
 
-pub line_bytes : (e : Entry) (l : Line) → e ≡ entry_for l → length (line_text l) ≡ entry_bytes e + length (plan_text l.leader_plan) + length (plan_text l.follower_plan)
+pub line_bytes : (e : Entry) (l : Line) → e ≡ entry_for l
+    → length (line_text l) ≡ entry_bytes e + length (plan_text l.leader_plan) + length (plan_text l.follower_plan)
 line_bytes e l is =
     let whole = line_of e l.leader_plan l.follower_plan in
     ap (λ (x : Line). length (line_text x)) (sym (entry_line e l is)) ∙ omega (arith, line_length whole, entry_bytes_lem e)
@@ -106,23 +107,14 @@ report_length ls = length-append (head_text (length ls)) (lines_text ls)
 
 -- ---- refusals
 
-pub refusal_length : (number place : ℕ) → length (refusal_text number place) ≡ length (printed refused_key (numeral number)) + length (printed line_key (numeral place))
+pub refusal_length : (number place : ℕ) → length (refusal_text number place)
+    ≡ length (printed refused_key (numeral number)) + length (printed line_key (numeral place))
 unfolding refusal_text
 refusal_length number place = length-append (printed refused_key (numeral number)) (printed line_key (numeral place))
-
--- there are 16 questions: a number beyond would be that of the first
-beyond : (n place : ℕ) → 16 < n → refusal_of n place ≡ TextTooLong
-unfolding refusal_of
-beyond n place h = let past : 16 ≤ n - 1 = omega arith in search (get_or_past, past)
-
-pub number_few : (q : Refusal) → number_of q ≤ 16
-number_few q = of (dec_at_most (number_of q) 16)
-  where
-    of : Dec (number_of q ≤ 16) → number_of q ≤ 16
-    of (yes h) = h
-    of (no n) = let first = beyond (number_of q) (place_of q) (omega (arith, n)) in omega (arith, n, ap number_of (sym (refusal_of_lem q) ∙ first))
 
 -- of 32-bit numbers: 15 bytes are the keys and newlines
 pub refusal_few : (number place : ℕ) → number ≤ max_number → place ≤ max_number → length (refusal_text number place) ≤ 15 + 2 * number_digits
 refusal_few number place h l =
-    omega (arith, refusal_length number place, printed_length refused_key (numeral number), printed_length line_key (numeral place), N.number_few number h, N.number_few place l)
+    let first = printed_length refused_key (numeral number) in
+    let second = printed_length line_key (numeral place) in
+    omega (arith, refusal_length number place, first, second, number_few number h, number_few place l)

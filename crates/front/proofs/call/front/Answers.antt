@@ -1,19 +1,18 @@
 -- `front::call::front` meets its contract.
-use Rattle.std.proofs.Common.{◌≡◌, rules, Err}
-use Rattle.front.specs.Laws.Listed.{listed_lines}
-use Rattle.front.specs.Laws.Promise.{refusal_promised, lines_promised}
+use Rattle.std.proofs.Common.{◌≡◌, refl, ap, ◌∙◌, ℕ, rules, Err}
+use Rattle.outcome.specs.Laws.Refusal.{number_some}
+use Rattle.questions.specs.Call.{Returned}
+use Rattle.front_entries.specs.Laws.Entries.{left_cleared}
+use Rattle.front.specs.Laws.Promise.{none_stored, all_stored, none_written, all_written}
 use Rattle.front.proofs.call.front.Goals as goal
 
 pub returns-in_err-count-clause-called : goal.returns-in_err-count-clause-called
 returns-in_err-count-clause-called c =
     let e : c.from_residual.result ≡ Err c.in_err-count.field-0.0 = search rules in
-    rw e (refusal_promised _ _ _ _ _ _ c.in_err-count.ensures.asked)
-
-pub write_plans-requires : goal.write_plans-requires
-write_plans-requires c = let x = listed_lines c.in_ok-count.ensures.asked in (x.listed, x.plans_fit)
-
-pub take_entries-requires : goal.take_entries-requires
-take_entries-requires c = let x = listed_lines c.in_ok-count.ensures.asked in (x.entries_fit, x.listed)
+    rw e (none_stored _ _ _ _ _ _ (none_written _ _ _ _ _ _ c.in_err-count.ensures.asked) (number_some _))
 
 pub returns-clause-called : goal.returns-clause-called
-returns-clause-called c = lines_promised _ _ _ _ _ _ c.in_ok-count.ensures.asked c.write_plans.ensures c.take_entries.ensures.0 c.take_entries.ensures.1
+returns-clause-called c =
+    let take = c.take_entries.ensures in
+    let written = all_written _ _ _ _ _ _ (rw c.new.ensures.lines at c.write_plans.ensures) c.in_ok-count.ensures.asked in
+    all_stored _ _ _ _ _ _ written _ _ _ (λ lines e. ap (λ (r : Returned ℕ). r.values) e) refl take.0 (λ h. take.1 ∙ left_cleared _ _ h)

@@ -4,9 +4,9 @@ use Rattle.report_text.specs.Report.{line_text}
 use Rattle.report_text.specs.Entries.{line_from}
 use Rattle.report_text.proofs.putting.put_entry.Goals as goal
 
-pub returns : goal.returns
+pub returns-clause-text : goal.returns-clause-text
 unfolding line_text line_from
-returns c =
+returns-clause-text c =
     let outages = rw c.split_at.ensures.front at c.put_line-3.ensures in
     let moves = rw (c.split_at-2.ensures.front, c.split_at.ensures.back) at c.put_line-4.ensures in
     puts_append c.put_line.ensures (puts_append c.put_line-2.ensures (puts_append outages moves))

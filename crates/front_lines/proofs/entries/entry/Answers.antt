@@ -1,7 +1,0 @@
--- `front_lines::entries::entry` meets its contract.
-use Rattle.std.proofs.Common.{rules}
-use Rattle.front_lines.specs.Laws.Entries.{entry_read}
-use Rattle.front_lines.proofs.entries.entry.Goals as goal
-
-pub returns : goal.returns
-returns c = entry_read c.args.rows.now {i = c.note-i.result} _ _ _ _ (search rules) (search rules) (search rules) (search rules) (search rules)

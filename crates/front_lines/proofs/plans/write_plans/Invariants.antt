@@ -1,6 +1,0 @@
--- `front_lines::plans::write_plans` meets its contract. The loop's invariant: the plans of the lines passed are written.
-use Rattle.front_lines.specs.Inner.Plans.{Written}
-use Rattle.front_lines.proofs.plans.write_plans.Given as goal
-
-abbrev pub invariant-loop-k : goal.invariant-loop-k
-invariant-loop-k l = Written l.rows l.count l.initial.plans l.plans l.at l.k
