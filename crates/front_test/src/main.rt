@@ -9,9 +9,10 @@ use outcome::Refusal;
 use questions::Workspace;
 use rows::{BUCKET_WORDS, LINK_WORDS, WORDS};
 use std::io;
-use strips::{Action, Task};
+use strips::Task;
 use test_support::{
-    action, bare, count, count_rows, other_entry, print_entries, print_plans, print_refusal, worked,
+    action, bare, count, count_rows, free_outage, no_moves, no_outages, other_entry, print_entries,
+    print_plans, print_refusal, with_actions, worked,
 };
 
 // A function prints, since `Display` and what is printed are of other crates.
@@ -93,13 +94,6 @@ fn wide(rt: &impl Print, label: &str, task: Task, plans: &mut [u8]) -> io::Resul
     list(rt, label, task, &mut work, 3, plans)
 }
 
-// The hall with a first outage that costs nothing.
-fn free_outage() -> Task {
-    let mut task = worked();
-    task.leader[0] = action(0, 4, 4, 0);
-    task
-}
-
 fn floor(rt: &impl Print) -> io::Result<()> {
     let task = worked();
     list_with::<7, 3, 5>(rt, "the hall", task)?;
@@ -121,14 +115,8 @@ fn free_first(rt: &impl Print) -> io::Result<()> {
 
 // Actions are left out.
 fn fewer_actions(rt: &impl Print) -> io::Result<()> {
-    let mut calm = worked();
-    calm.leader_count = 0;
-    calm.leader = [Action::default(); 16];
-    list_with::<7, 3, 5>(rt, "no outages", calm)?;
-    let mut stuck = worked();
-    stuck.follower_count = 0;
-    stuck.follower = [Action::default(); 32];
-    list_with::<7, 3, 5>(rt, "no moves", stuck)
+    list_with::<7, 3, 5>(rt, "no outages", no_outages())?;
+    list_with::<7, 3, 5>(rt, "no moves", no_moves())
 }
 
 // Of several questions that get no, the first is named.
@@ -144,30 +132,30 @@ fn refusals(rt: &impl Print) -> io::Result<()> {
 
 // The outage needs fact 5, which only a move gives.
 fn after_a_move(rt: &impl Print) -> io::Result<()> {
-    let mut task = bare(13, 2);
-    task.leader_count = 1;
-    task.leader[0] = action(1, 16, 12, 0);
-    task.follower_count = 2;
-    task.follower[0] = action(1, 5, 1, 2);
-    task.follower[1] = action(0, 0, 0, 16);
+    let task = with_actions(
+        bare(13, 2),
+        &[action(1, 16, 12, 0)],
+        &[action(1, 5, 1, 2), action(0, 0, 0, 16)],
+    );
     list_with::<7, 3, 5>(rt, "outage after a move", task)
 }
 
 // Without the belt, fact 11, a counter of 5 bits has to go down: facts 6 to 10 are its bits, facts 1 to 5 say that a bit is not set.
 fn long_detour(rt: &impl Print) -> io::Result<()> {
-    let mut task = bare(13, 2);
-    task.facts = 11;
-    task.initial = 2016;
-    task.goal = 31;
-    task.leader_count = 1;
-    task.leader[0] = action(3, 1024, 1024, 0);
-    task.follower_count = 6;
-    task.follower[0] = action(10_000, 32, 32, 1);
-    task.follower[1] = action(10_000, 65, 65, 34);
-    task.follower[2] = action(10_000, 131, 131, 100);
-    task.follower[3] = action(10_000, 263, 263, 232);
-    task.follower[4] = action(10_000, 527, 527, 496);
-    task.follower[5] = action(9, 1024, 992, 31);
+    let mut belt = bare(2016, 31);
+    belt.facts = 11;
+    let task = with_actions(
+        belt,
+        &[action(3, 1024, 1024, 0)],
+        &[
+            action(10_000, 32, 32, 1),
+            action(10_000, 65, 65, 34),
+            action(10_000, 131, 131, 100),
+            action(10_000, 263, 263, 232),
+            action(10_000, 527, 527, 496),
+            action(9, 1024, 992, 31),
+        ],
+    );
     let mut plans = [99u8; 33];
     wide(rt, "31 moves", task, &mut plans)?;
     wide(

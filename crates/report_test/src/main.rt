@@ -10,9 +10,10 @@ use questions::Workspace;
 use report::{Written, report};
 use rows::{BUCKET_WORDS, LINK_WORDS, WORDS};
 use std::io;
-use strips::{Action, Task};
+use strips::Task;
 use test_support::{
-    action, bare, count, count_rows, other_entry, print_entries, print_plans, print_refusal, worked,
+    action, bare, count, count_rows, free_outage, no_moves, no_outages, other_entry, print_entries,
+    print_plans, print_refusal, with_actions, worked,
 };
 
 // A function prints, since `Display` and what is printed are of other crates.
@@ -100,20 +101,12 @@ fn floor(rt: &impl Print) -> io::Result<()> {
 
 // Fewer lines than there are entries.
 fn fewer_lines(rt: &impl Print) -> io::Result<()> {
-    let mut free = worked();
-    free.leader[0] = action(0, 4, 4, 0);
-    roomy(rt, "first outage at price 0", free)?;
-    let mut calm = worked();
-    calm.leader_count = 0;
-    calm.leader = [Action::default(); 16];
-    roomy(rt, "no outages", calm)?;
+    roomy(rt, "first outage at price 0", free_outage())?;
+    roomy(rt, "no outages", no_outages())?;
     let mut reached = worked();
     reached.goal = 0;
     roomy(rt, "empty goal", reached)?;
-    let mut stuck = worked();
-    stuck.follower_count = 0;
-    stuck.follower = [Action::default(); 32];
-    roomy(rt, "no moves", stuck)
+    roomy(rt, "no moves", no_moves())
 }
 
 fn no_facts(rt: &impl Print) -> io::Result<()> {
@@ -124,19 +117,18 @@ fn no_facts(rt: &impl Print) -> io::Result<()> {
 
 // Three belts, a repair of all of them that costs nothing, and outages that end in the same state or in the same pair.
 fn repairs(rt: &impl Print) -> io::Result<()> {
-    let mut task = bare(13, 2);
-    task.initial = 29;
-    task.leader_count = 6;
-    task.leader[0] = action(3, 4, 4, 0);
-    task.leader[1] = action(2, 8, 8, 0);
-    task.leader[2] = action(5, 12, 12, 0);
-    task.leader[3] = action(4, 16, 16, 0);
-    task.leader[4] = action(0, 0, 32, 28);
-    task.leader[5] = action(3, 4, 4, 32);
-    task.follower_count = 3;
-    task.follower[0] = action(1, 5, 1, 2);
-    task.follower[1] = action(4, 9, 1, 2);
-    task.follower[2] = action(4, 17, 1, 2);
+    let mut task = with_actions(
+        bare(29, 2),
+        &[
+            action(3, 4, 4, 0),
+            action(2, 8, 8, 0),
+            action(5, 12, 12, 0),
+            action(4, 16, 16, 0),
+            action(0, 0, 32, 28),
+            action(3, 4, 4, 32),
+        ],
+        &[action(1, 5, 1, 2), action(4, 9, 1, 2), action(4, 17, 1, 2)],
+    );
     roomy(rt, "repairs, fewer outages", task)?;
     task.leader[2] = action(6, 12, 12, 0);
     roomy(rt, "repairs, smaller first outage", task)?;
@@ -146,14 +138,11 @@ fn repairs(rt: &impl Print) -> io::Result<()> {
 
 // A cheaper way to a state that was met before.
 fn met_before(rt: &impl Print) -> io::Result<()> {
-    let mut task = bare(13, 2);
-    task.leader_count = 3;
-    task.leader[0] = action(9, 12, 12, 0);
-    task.leader[1] = action(3, 4, 4, 0);
-    task.leader[2] = action(3, 8, 8, 0);
-    task.follower_count = 2;
-    task.follower[0] = action(1, 5, 1, 2);
-    task.follower[1] = action(4, 9, 1, 2);
+    let task = with_actions(
+        bare(13, 2),
+        &[action(9, 12, 12, 0), action(3, 4, 4, 0), action(3, 8, 8, 0)],
+        &[action(1, 5, 1, 2), action(4, 9, 1, 2)],
+    );
     lend::<5, 118>(rt, "met before", task, 0)
 }
 

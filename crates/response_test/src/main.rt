@@ -11,7 +11,8 @@ use rows::{BUCKET_WORDS, LINK_WORDS, WORDS};
 use std::io;
 use strips::Task;
 use test_support::{
-    action, bare, count, count_rows, print_answer, print_numbers, print_refusal, worked,
+    action, bare, count, count_rows, print_answer, print_numbers, print_refusal, with_actions,
+    worked,
 };
 
 // What the working slices hold before a call.
@@ -147,12 +148,16 @@ fn refusals(rt: &impl Print) -> io::Result<()> {
 
 // The direct way costs 100; the way over facts 2 and 3 costs 90.
 fn detour(rt: &impl Print) -> io::Result<()> {
-    let mut task = open_task();
-    task.follower_count = 4;
-    task.follower[0] = action(100, 1, 0, 32);
-    task.follower[1] = action(30, 1, 1, 2);
-    task.follower[2] = action(30, 2, 2, 4);
-    task.follower[3] = action(30, 4, 4, 32);
+    let mut task = with_actions(
+        open_task(),
+        &[],
+        &[
+            action(100, 1, 0, 32),
+            action(30, 1, 1, 2),
+            action(30, 2, 2, 4),
+            action(30, 4, 4, 32),
+        ],
+    );
     roomy::<3>(rt, "cheaper detour", task, &[])?;
     roomy::<2>(rt, "cheaper detour, 2 places", task, &[])?;
     task.follower[3] = action(40, 4, 4, 32);
@@ -167,24 +172,32 @@ fn detour(rt: &impl Print) -> io::Result<()> {
 
 // A cheaper way to a state that was met before.
 fn met_before(rt: &impl Print) -> io::Result<()> {
-    let mut task = open_task();
-    task.follower_count = 4;
-    task.follower[0] = action(9, 1, 1, 2);
-    task.follower[1] = action(2, 1, 1, 4);
-    task.follower[2] = action(3, 4, 4, 2);
-    task.follower[3] = action(1, 2, 2, 32);
+    let task = with_actions(
+        open_task(),
+        &[],
+        &[
+            action(9, 1, 1, 2),
+            action(2, 1, 1, 4),
+            action(3, 4, 4, 2),
+            action(1, 2, 2, 32),
+        ],
+    );
     roomy::<3>(rt, "met before", task, &[])
 }
 
 // Actions that cost nothing and lead round in circles.
 fn loops(rt: &impl Print) -> io::Result<()> {
-    let mut task = open_task();
-    task.follower_count = 5;
-    task.follower[0] = action(0, 1, 1, 2);
-    task.follower[1] = action(0, 2, 2, 1);
-    task.follower[2] = action(0, 2, 2, 4);
-    task.follower[3] = action(0, 4, 4, 1);
-    task.follower[4] = action(0, 4, 0, 32);
+    let mut task = with_actions(
+        open_task(),
+        &[],
+        &[
+            action(0, 1, 1, 2),
+            action(0, 2, 2, 1),
+            action(0, 2, 2, 4),
+            action(0, 4, 4, 1),
+            action(0, 4, 0, 32),
+        ],
+    );
     roomy::<3>(rt, "free loops", task, &[])?;
     task.follower[4] = action(0, 0, 0, 0);
     roomy::<3>(rt, "free loops, no way", task, &[])
@@ -192,13 +205,17 @@ fn loops(rt: &impl Print) -> io::Result<()> {
 
 // Ways of one cost; of one cost and as many steps.
 fn ties(rt: &impl Print) -> io::Result<()> {
-    let mut task = open_task();
-    task.follower_count = 5;
-    task.follower[0] = action(5, 1, 1, 2);
-    task.follower[1] = action(5, 2, 2, 32);
-    task.follower[2] = action(10, 1, 1, 32);
-    task.follower[3] = action(5, 1, 1, 4);
-    task.follower[4] = action(5, 4, 4, 32);
+    let mut task = with_actions(
+        open_task(),
+        &[],
+        &[
+            action(5, 1, 1, 2),
+            action(5, 2, 2, 32),
+            action(10, 1, 1, 32),
+            action(5, 1, 1, 4),
+            action(5, 4, 4, 32),
+        ],
+    );
     roomy::<3>(rt, "fewer steps", task, &[])?;
     task.follower[2] = action(11, 1, 1, 32);
     roomy::<3>(rt, "smaller first step", task, &[])?;
@@ -213,20 +230,22 @@ fn ties(rt: &impl Print) -> io::Result<()> {
 
 // A counter of 8 bits that goes down: facts 9 to 16 are its bits, facts 1 to 8 say that a bit is not set. Its one plan has 255 steps.
 fn counter() -> Task {
-    let mut task = open_task();
-    task.facts = 16;
-    task.initial = 65280;
-    task.goal = 255;
-    task.follower_count = 8;
-    task.follower[0] = action(10_000, 256, 256, 1);
-    task.follower[1] = action(10_000, 513, 513, 258);
-    task.follower[2] = action(10_000, 1027, 1027, 772);
-    task.follower[3] = action(10_000, 2055, 2055, 1800);
-    task.follower[4] = action(10_000, 4111, 4111, 3856);
-    task.follower[5] = action(10_000, 8223, 8223, 7968);
-    task.follower[6] = action(10_000, 16447, 16447, 16192);
-    task.follower[7] = action(10_000, 32895, 32895, 32640);
-    task
+    let mut bits = bare(65280, 255);
+    bits.facts = 16;
+    with_actions(
+        bits,
+        &[],
+        &[
+            action(10_000, 256, 256, 1),
+            action(10_000, 513, 513, 258),
+            action(10_000, 1027, 1027, 772),
+            action(10_000, 2055, 2055, 1800),
+            action(10_000, 4111, 4111, 3856),
+            action(10_000, 8223, 8223, 7968),
+            action(10_000, 16447, 16447, 16192),
+            action(10_000, 32895, 32895, 32640),
+        ],
+    )
 }
 
 // As many places as the counter has states, but for links and a plan that the caller lends.

@@ -7,4 +7,6 @@ mod tasks;
 
 pub use counting::{count, count_rows};
 pub use showing::{print_answer, print_entries, print_numbers, print_plans, print_refusal};
-pub use tasks::{action, bare, other_entry, worked};
+pub use tasks::{
+    action, bare, free_outage, no_moves, no_outages, other_entry, with_actions, worked,
+};

@@ -37,7 +37,8 @@ Claims (reach t attacks states enough short) = Fits t enough × (Fits t short �
 Claims (replay t p q number place) = ((replayed t p q).number ≡ number) × ((replayed t p q).place ≡ place)
 Claims (refusal text number place) = ((parse text).number ≡ number) × ((parse text).place ≡ place)
 Claims (file t text n) = (length text ≡ n) × (parse text ≡ accepted t)
-Claims (covered t attacks lines x price) = Front t lines × (cost (leader_actions t) x.node.plan ≡ price) × Inflicts t x.answer x.node.plan × FirstCovers lines price x.answer
+Claims (covered t attacks lines x price) =
+    Front t lines × (cost (leader_actions t) x.node.plan ≡ price) × Inflicts t x.answer x.node.plan × FirstCovers lines price x.answer
 
 unfoldable pub first_covers : List Line → ℕ → Value → Bool
 first_covers [] price a = false
@@ -49,7 +50,8 @@ test (front t attacks lines) = is_front t attacks lines
 test (reach t attacks states enough short) = both (is_reach t attacks states) (both (leb (length states) enough) (ltb short (length states)))
 test (replay t p q number place) = both (eqb (replayed t p q).number number) (eqb (replayed t p q).place place)
 test (refusal text number place) = both (eqb (parse text).number number) (eqb (parse text).place place)
-test (file t text n) = both (eqb (length text) n) (both (says (dec_valid t)) (either (same_list text (render t)) (same_list (text ++ (newline ∷ [])) (render t))))
+test (file t text n) =
+    both (eqb (length text) n) (both (says (dec_valid t)) (either (same_list text (render t)) (same_list (text ++ (newline ∷ [])) (render t))))
 test (covered t attacks lines x price) =
     both (is_front t attacks lines)
     (both (eqb (cost (leader_actions t) x.node.plan) price)
@@ -120,9 +122,11 @@ examples =
     ∷ front (hall 0 2 2 2) (attack 13 [] (minutes 3) (1 ∷ []) (node 13 [] ∷ node 14 (1 ∷ []) ∷ []) ∷ []) (line 0 (minutes 3) [] (1 ∷ []) ∷ [])
     ∷ front (hall 2 2 2 0)
     (attack 13 [] (minutes 0) [] (node 13 [] ∷ node 14 (1 ∷ []) ∷ []) ∷ attack 9 (1 ∷ []) (minutes 0) [] (node 9 [] ∷ node 10 (2 ∷ []) ∷ [])
-    ∷ attack 5 (2 ∷ []) (minutes 0) [] (node 5 [] ∷ node 6 (1 ∷ []) ∷ []) ∷ attack 1 (1 ∷ 2 ∷ []) (minutes 0) [] (node 1 [] ∷ []) ∷ []) (line 0 (minutes 0) [] [] ∷ [])
+    ∷ attack 5 (2 ∷ []) (minutes 0) [] (node 5 [] ∷ node 6 (1 ∷ []) ∷ []) ∷ attack 1 (1 ∷ 2 ∷ []) (minutes 0) [] (node 1 [] ∷ []) ∷ [])
+    (line 0 (minutes 0) [] [] ∷ [])
     ∷ front (hall 2 0 2 2)
-    (attack 13 [] none [] (node 13 [] ∷ []) ∷ attack 9 (1 ∷ []) none [] (node 9 [] ∷ []) ∷ attack 5 (2 ∷ []) none [] (node 5 [] ∷ []) ∷ attack 1 (1 ∷ 2 ∷ []) none [] (node 1 [] ∷ []) ∷ [])
+    (attack 13 [] none [] (node 13 [] ∷ []) ∷ attack 9 (1 ∷ []) none [] (node 9 [] ∷ [])
+    ∷ attack 5 (2 ∷ []) none [] (node 5 [] ∷ []) ∷ attack 1 (1 ∷ 2 ∷ []) none [] (node 1 [] ∷ []) ∷ [])
     (line 0 none [] [] ∷ [])
     -- the first outage at price 0: (0, 7) and (5, none), and the start's own pair is absent
     ∷ front (hall 2 2 0 2) attacks (line 0 (minutes 7) (1 ∷ []) (2 ∷ []) ∷ line 5 none (1 ∷ 2 ∷ []) [] ∷ [])

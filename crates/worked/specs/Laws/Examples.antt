@@ -18,16 +18,25 @@ use Rattle.task_format.specs.Text.{newline, split, begins}
 use Rattle.task_format.specs.Value.{decimal_from, members, set_of, content, InForm, InRange, Ascending}
 use Rattle.task_format.specs.Lines.{key_of, kind_of, stored, with_action, action_key, part_of, action_field, field}
 use Rattle.task_format.specs.Parse.{parse, follow, judged, fault, zeros}
-use Rattle.task_format.specs.Deciders.{dec_same, dec_at_most, dec_true, dec_either, dec_empty, dec_all, dec_between, dec_number, dec_rises_from, dec_rises, dec_in_form, dec_in_range, dec_ascending}
+use Rattle.task_format.specs.Deciders.{dec_same, dec_at_most, dec_true, dec_either, dec_empty, dec_all, dec_between, dec_number, dec_rises_from, dec_rises}
+use Rattle.task_format.specs.Deciders.{dec_in_form, dec_in_range, dec_ascending}
 use Rattle.task_format.specs.Render.{digits_of, facts_of, listed, value_text, line_text, lines_text, render}
 use Rattle.round_trip.specs.Theorems.{written_read, written_cut_read}
-use Rattle.worked.specs.Check.{both, either, every, some, every_up_to, when, same_list, same_value, below, holds, not_later, at_most, runs_to, serves, closed, tabled, responds, answered, rises, stands, covers, attack_nodes, is_front, among, not, distinct, is_reach}
+use Rattle.worked.specs.Check.{both, either, every, some, every_up_to, when, same_list, same_value, below, holds, not_later, at_most, runs_to, serves, closed}
+use Rattle.worked.specs.Check.{tabled, responds, answered, rises, stands, covers, attack_nodes, is_front, among, not, distinct, is_reach}
 use Rattle.worked.specs.Laws.Tests.{both_first, both_second, either_of, same_list_lem, runs_to_lem}
 use Rattle.worked.specs.Laws.Sound.{attack_response, front_is, reach_is}
-use Rattle.worked.specs.Examples.{Example, front, reach, replay, refusal, file, covered, Claims, test, act, hall, worked, node, attack, line, attacks, second, lines, text, first_covers, FirstCovers, examples}
+use Rattle.worked.specs.Examples.{Example, front, reach, replay, refusal, file, covered, Claims, test, act, hall, worked, node, attack, line, attacks, second}
+use Rattle.worked.specs.Examples.{lines, text, first_covers, FirstCovers, examples}
 
 pub all_pass : every test examples ≡ true
-unfolding every test examples both either some every_up_to when same_list same_value up_to below holds not_later at_most runs_to serves closed tabled responds answered rises stands covers attack_nodes is_front among not distinct is_reach act hall worked node attack line attacks second lines text first_covers render lines_text line_text value_text listed facts_of digits_of field action_field part_of action_key parse follow judged fault zeros content decimal_from members set_of InForm InRange Ascending key_of kind_of stored with_action split begins dec_number dec_either dec_empty dec_all dec_between dec_rises_from dec_rises dec_in_form dec_in_range dec_ascending dec_same dec_at_most dec_true replayed passing end_state ask says leader_actions follower_actions dec_holds after cost ℕ_discrete dec_le dec_lt dec_valid dec_places dec_unused dec_proper dec_within dec_when dec_all_below Dec.and dec_equivalent dec_known
+unfolding every test examples both either some every_up_to when same_list same_value up_to below holds not_later at_most runs_to serves closed tabled responds
+    answered rises stands covers attack_nodes is_front among not distinct is_reach act hall worked node attack line attacks second lines text
+    first_covers render lines_text line_text value_text listed facts_of digits_of field action_field part_of action_key parse follow judged fault zeros
+    content decimal_from members set_of InForm InRange Ascending key_of kind_of stored with_action split begins dec_number dec_either dec_empty dec_all
+    dec_between dec_rises_from dec_rises dec_in_form dec_in_range dec_ascending dec_same dec_at_most dec_true replayed passing end_state ask says
+    leader_actions follower_actions dec_holds after cost ℕ_discrete dec_le dec_lt dec_valid dec_places dec_unused dec_proper dec_within dec_when
+    dec_all_below Dec.and dec_equivalent dec_known
 all_pass = refl
 
 first_covers_lem : (ls : List Line) (price : ℕ) (a : Value) → first_covers ls price a ≡ true → FirstCovers ls price a
@@ -52,7 +61,8 @@ sound (file t text n) e =
     let rest = both_second (eqb (length text) n) _ e in
     let valid = said_yes (dec_valid t) (both_first _ _ rest) in (
       eqb-true _ _ long,
-      ⊎_elim (λ same. ap parse (same_list_lem text (render t) same) ∙ written_read t valid) (λ same. written_cut_read t valid text (same_list_lem (text ++ (newline ∷ [])) (render t) same))
+      ⊎_elim (λ same. ap parse (same_list_lem text (render t) same) ∙ written_read t valid)
+          (λ same. written_cut_read t valid text (same_list_lem (text ++ (newline ∷ [])) (render t) same))
           (either_of (same_list text (render t)) _ (both_second (says (dec_valid t)) _ rest)),
     )
 sound (covered t attacks lines x price) e =

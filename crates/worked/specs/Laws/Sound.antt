@@ -19,8 +19,10 @@ use Rattle.search.specs.Reachable.{Reach, Fits}
 use Rattle.search.specs.Response.{Solves, Response, found, nothing}
 use Rattle.search.specs.Laws.Response.{response_unique}
 use Rattle.pareto.specs.Front.{Attacks, Inflicts, Line, Stands, Rising, nil, cons, Covered, Front}
-use Rattle.worked.specs.Check.{Node, Attack, both, every, some, when, same_list, same_value, below, holds, at_most, runs_to, serves, closed, tabled, responds, answered, rises, stands, covers, attack_nodes, is_front, every_up_to, among, is_reach}
-use Rattle.worked.specs.Laws.Tests.{both_first, both_second, when_then, every_each, some_one, up_to_each, same_list_lem, same_value_lem, value_same, below_is, holds_is, is_holds, at_most_is, runs_to_lem, among_is, distinct_is}
+use Rattle.worked.specs.Check.{Node, Attack, both, every, some, when, same_list, same_value, below, holds, at_most, runs_to, serves, closed, tabled, responds}
+use Rattle.worked.specs.Check.{answered, rises, stands, covers, attack_nodes, is_front, every_up_to, among, is_reach}
+use Rattle.worked.specs.Laws.Tests.{both_first, both_second, when_then, every_each, some_one, up_to_each, same_list_lem, same_value_lem, value_same, below_is}
+use Rattle.worked.specs.Laws.Tests.{holds_is, is_holds, at_most_is, runs_to_lem, among_is, distinct_is}
 
 abbrev Listed : List Node → Node → Type 0
 Listed nodes n = Memᴰ n nodes
@@ -51,9 +53,10 @@ module _ (acts : List Action) (s : ℕ) (nodes : List Node) (checked : tabled ac
   is_closed : Closed acts (Listed nodes) (λ n. n.state) (λ n. n.plan)
   unfolding tabled closed
   is_closed n m k l =
-      let row = every_each (λ x. every_up_to (λ j. when (holds x.state (action acts j).precondition) (serves acts nodes (after (action acts j) x.state) (x.plan ++ (j ∷ [])))) (length acts)) nodes
-      (both_second _ _ (both_second _ _ checked)) n m in
-      let one = up_to_each (λ j. when (holds n.state (action acts j).precondition) (serves acts nodes (after (action acts j) n.state) (n.plan ++ (j ∷ [])))) (length acts) row k l.known.0 l.known.1 in
+      let step = λ (x : Node) (j : ℕ).
+      when (holds x.state (action acts j).precondition) (serves acts nodes (after (action acts j) x.state) (x.plan ++ (j ∷ []))) in
+      let row = every_each (λ x. every_up_to (step x) (length acts)) nodes (both_second _ _ (both_second _ _ checked)) n m in
+      let one = up_to_each (step n) (length acts) row k l.known.0 l.known.1 in
       serving acts nodes (after (action acts k) n.state) (n.plan ++ (k ∷ [])) (when_then _ _ one (is_holds _ _ l.applies))
 
   -- every plan from s leads to a node's state, and the node's plan is at most it
@@ -90,7 +93,8 @@ module _ (t : Task) (s : ℕ) (nodes : List Node) (table : tabled (follower_acti
   response_is none p r =
       let empty : p ≡ [] = same_list_lem p [] (both_first _ _ r) in
       let no_way : Response t s none [] = nothing (λ q solves.
-      impossible (when_then _ _ (every_each (λ n. when (holds n.state t.goal) false) nodes (both_second _ _ r) (solver solves).row (solver solves).listed) (goal_there solves))) in
+      let none_there = every_each (λ n. when (holds n.state t.goal) false) nodes (both_second _ _ r) (solver solves).row (solver solves).listed in
+      impossible (when_then _ _ none_there (goal_there solves))) in
       no_plan p empty no_way
   response_is (minutes c) p r =
       let costs : cost (follower_actions t) p ≡ c = eqb-true _ c (both_first _ _ r) in
@@ -99,11 +103,11 @@ module _ (t : Task) (s : ℕ) (nodes : List Node) (table : tabled (follower_acti
       let plan : n.plan ≡ p = same_list_lem n.plan p (both_first _ _ one.passes) in
       let runs = plan_runs (follower_actions t) s nodes table n one.listed p plan in
       let solves : Solves t s p = record { end = n.state; runs = runs; holds = holds_is n.state t.goal (both_second (same_list n.plan p) _ one.passes) } in
-      let least : (q : List ℕ) → Solves t s q → AtMost (follower_actions t) p q = λ q x.
-      at_most_trans (follower_actions t)
-      (at_most_is (follower_actions t) p (solver x).row.plan
-      (when_then _ _ (every_each (λ n. when (holds n.state t.goal) (at_most (follower_actions t) p n.plan)) nodes (both_second _ _ (both_second _ _ r)) (solver x).row (solver x).listed) (goal_there x)))
-      (solver x).least in
+      let acts = follower_actions t in
+      let each = every_each (λ n. when (holds n.state t.goal) (at_most acts p n.plan)) nodes (both_second _ _ (both_second _ _ r)) in
+      let least : (q : List ℕ) → Solves t s q → AtMost acts p q = λ q x.
+      let v = solver x in
+      at_most_trans acts (at_most_is acts p v.row.plan (when_then _ _ (each v.row v.listed) (goal_there x))) v.least in
       at_cost c p costs (record { has = solves; least = least })
 
 pub attack_response : (t : Task) (x : Attack) → answered t x ≡ true → Response t x.node.state x.answer x.response
@@ -178,7 +182,9 @@ module _ (t : Task) (attacks : List Attack) (lines : List Line) (checked : is_fr
   line_stands : (l : Line) → stands t attacks l ≡ true → Stands t l
   unfolding stands
   line_stands l e =
-      let one = some_one (λ x. both (same_list x.node.plan l.leader_plan) (both (same_value x.answer l.answer) (same_list x.response l.follower_plan))) attacks (both_first _ _ e) in
+      let one =
+      some_one (λ x. both (same_list x.node.plan l.leader_plan) (both (same_value x.answer l.answer) (same_list x.response l.follower_plan))) attacks
+      (both_first _ _ e) in
       let x = one.it in
       let plan : x.node.plan ≡ l.leader_plan = same_list_lem _ _ (both_first _ _ one.passes) in
       let rest = both_second (same_list x.node.plan l.leader_plan) _ one.passes in
@@ -186,12 +192,13 @@ module _ (t : Task) (attacks : List Attack) (lines : List Line) (checked : is_fr
       let moves : x.response ≡ l.follower_plan = same_list_lem _ _ (both_second (same_value x.answer l.answer) _ rest) in
       let attacked = attacked_by x one.listed l.leader_plan plan in
       let answers = answered_by x one.listed l.answer l.follower_plan answer moves in
+      let has : Inflicts t l.answer l.leader_plan = record { end = x.node.state; attacks = attacked; plan = l.follower_plan; response = answers } in
       record {
         end = x.node.state;
         attacks = attacked;
         costs = eqb-true _ _ (both_first _ _ (both_second _ _ e));
         response = answers;
-        least = record { has = record { end = x.node.state; attacks = attacked; plan = l.follower_plan; response = answers }; least = λ q i. smallest q i (meets t attacks table q i.end i.attacks) };
+        least = record { has = has; least = λ q i. smallest q i (meets t attacks table q i.end i.attacks) };
       }
     where
       smallest : (q : List ℕ) (i : Inflicts t l.answer q) → Meeting t attacks table q i.end → AtMost (leader_actions t) l.leader_plan q
@@ -199,10 +206,10 @@ module _ (t : Task) (attacks : List Attack) (lines : List Line) (checked : is_fr
           let y = m.attack in
           let there : Response t y.node.state l.answer i.plan = rw m.state i.response in
           let answer : y.answer ≡ l.answer = (response_unique (response y m.listed) there).0 in
-          at_most_trans (leader_actions t)
-          (at_most_is (leader_actions t) l.leader_plan y.node.plan
-          (when_then _ _ (every_each (λ x. when (same_value x.answer l.answer) (at_most (leader_actions t) l.leader_plan x.node.plan)) attacks (both_second _ _ (both_second _ _ e)) y m.listed) (value_same _ _ answer)))
-          m.least
+          let acts = leader_actions t in
+          let rest = both_second _ _ (both_second _ _ e) in
+          let each = every_each (λ x. when (same_value x.answer l.answer) (at_most acts l.leader_plan x.node.plan)) attacks rest in
+          at_most_trans acts (at_most_is acts l.leader_plan y.node.plan (when_then _ _ (each y m.listed) (value_same _ _ answer))) m.least
 
   line_covers : (p : List ℕ) (s : ℕ) → Meeting t attacks table p s → Covered t lines (cost (leader_actions t) p) s
   unfolding is_front covers
@@ -241,7 +248,8 @@ module _ (t : Task) (attacks : List Attack) (states : List ℕ) (checked : is_re
   follower_table : (x : Attack) → Memᴰ x attacks → both (tabled (follower_actions t) x.node.state x.nodes) (every (λ n. among n.state states) x.nodes) ≡ true
   unfolding is_reach
   follower_table x m =
-      every_each (λ x. both (tabled (follower_actions t) x.node.state x.nodes) (every (λ n. among n.state states) x.nodes)) attacks (both_first _ _ (both_second _ _ checked)) x m
+      every_each (λ x. both (tabled (follower_actions t) x.node.state x.nodes) (every (λ n. among n.state states) x.nodes)) attacks
+      (both_first _ _ (both_second _ _ checked)) x m
 
   among_states : (s : ℕ) → Reach t s → Memᴰ s states
   among_states s r =
@@ -259,21 +267,26 @@ module _ (t : Task) (attacks : List Attack) (states : List ℕ) (checked : is_re
   is_reached : (s : ℕ) → Memᴰ s states → Reach t s
   unfolding is_reach
   is_reached s m =
-      let one = some_one (λ x. some (λ n. eqb s n.state) x.nodes) attacks (every_each (λ s. some (λ x. some (λ n. eqb s n.state) x.nodes) attacks) states (both_second _ _ (both_second _ _ (both_second _ _ checked))) s m) in
+      let found = λ (s : ℕ) (x : Attack). some (λ n. eqb s n.state) x.nodes in
+      let each = every_each (λ s. some (found s) attacks) states (both_second _ _ (both_second _ _ (both_second _ _ checked))) in
+      let one = some_one (found s) attacks (each s m) in
       let x = one.it in
       let two = some_one (λ n. eqb s n.state) x.nodes one.passes in
       let n = two.it in
+      let runs = node_runs (follower_actions t) x.node.state x.nodes (both_first _ _ (follower_table x one.listed)) n two.listed in
       record {
         leader_plan = x.node.plan;
         middle = x.node.state;
         follower_plan = n.plan;
         leader = attack_runs t attacks leader_table x one.listed;
-        follower = ending s (eqb-true s n.state two.passes) (node_runs (follower_actions t) x.node.state x.nodes (both_first _ _ (follower_table x one.listed)) n two.listed);
+        follower = ending s (eqb-true s n.state two.passes) runs;
       }
 
   pub reach_is : (n : ℕ) → (length states ≤ n → Fits t n) × (n < length states → Fits t n → ⊥)
   unfolding is_reach
   reach_is n = (
     λ h. record { states = states; few = h; all = among_states },
-    λ h f. omega (arith, f.few, pigeonhole (distinct_is states (both_first _ _ (both_second _ _ (both_second _ _ checked)))) f.states (λ s m. f.all s (is_reached s m))),
+    λ h f.
+        let distinct = distinct_is states (both_first _ _ (both_second _ _ (both_second _ _ checked))) in
+        omega (arith, f.few, pigeonhole distinct f.states (λ s m. f.all s (is_reached s m))),
   )

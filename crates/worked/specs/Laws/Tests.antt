@@ -10,7 +10,8 @@ use Rattle.strips.specs.Plan.{action, cost, Before, here, there, shorter, earlie
 use Rattle.strips.specs.Laws.Pigeonhole.{Distinct, nil, cons}
 use Rattle.outcome.specs.Answer.{Value, minutes, none, Below, number_below, below_none}
 use Rattle.strips.specs.declared.Action.{Action}
-use Rattle.worked.specs.Check.{both, either, every, some, every_up_to, when, same_list, same_value, below, holds, not_later, at_most, runs_to, among, not, distinct}
+use Rattle.worked.specs.Check.{both, either, every, some, every_up_to, when, same_list, same_value, below, holds, not_later, at_most, runs_to, among, not}
+use Rattle.worked.specs.Check.{distinct}
 
 never : {X : Type 0} → false ≡ true → X
 never e = absurd (let z : ◌≡◌ {A = ℕ} 0 1 = cc in omega arith)
@@ -136,7 +137,8 @@ at_most_is acts p q e = of (either_of _ _ e)
     steps c (inr h) = let l = eqb-true (length p) (length q) (both_first _ _ h) in level c l (not_later_lem p q l (both_second _ _ h))
 
     of : (ltb (cost acts p) (cost acts q) ≡ true)
-        ⊎ (both (eqb (cost acts p) (cost acts q)) (either (ltb (length p) (length q)) (both (eqb (length p) (length q)) (not_later p q))) ≡ true) → AtMost acts p q
+        ⊎ (both (eqb (cost acts p) (cost acts q)) (either (ltb (length p) (length q)) (both (eqb (length p) (length q)) (not_later p q))) ≡ true)
+        → AtMost acts p q
     of (inl h) = cheaper (ltb-true _ _ h)
     of (inr h) = steps (eqb-true _ _ (both_first _ _ h)) (either_of _ _ (both_second _ _ h))
 
@@ -146,7 +148,8 @@ runs_to_lem acts s [] t e = rw (eqb-true s t e) done
 runs_to_lem acts s (k ∷ p) t e =
     let known = both_first _ _ e in
     let rest = both_second _ _ e in
-    next (record { known = (leb-true 1 k (both_first _ _ known), leb-true k (length acts) (both_second _ _ known)); applies = holds_is s (action acts k).precondition (both_first _ _ rest) })
+    let in_list : (1 ≤ k) × (k ≤ length acts) = (leb-true 1 k (both_first _ _ known), leb-true k (length acts) (both_second _ _ known)) in
+    next (record { known = in_list; applies = holds_is s (action acts k).precondition (both_first _ _ rest) })
     (runs_to_lem acts (after (action acts k) s) p t (both_second _ _ rest))
 
 pub among_is : (x : ℕ) (ys : List ℕ) → among x ys ≡ true → Memᴰ x ys
