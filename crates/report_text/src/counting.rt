@@ -16,6 +16,14 @@ pub fn digit_count(n: u32) -> usize
     n.checked_ilog10().map_or(1, |power| power as usize + 1)
 }
 
+// The same of a plan's number, without a logarithm: plans can be long.
+#[tactic(auto, using(crate::specs::Laws::Numerals::byte_many))]
+fn number_bytes(n: u8) -> usize
+    ensures { (result ≡ length (numeral n)) × (result ≤ 3) }
+{
+    1 + usize::from(n >= 10) + usize::from(n >= 100)
+}
+
 // The first number has no comma before it.
 #[tactic(auto, unfolding(crate::specs::Report::plan_text, crate::specs::Report::further_text))]
 pub fn plan_bytes(plan: &[u8]) -> usize
@@ -25,9 +33,9 @@ pub fn plan_bytes(plan: &[u8]) -> usize
     let Some((first, rest)) = plan.split_first() else {
         return 0;
     };
-    let mut total = digit_count(u32::from(*first));
+    let mut total = number_bytes(*first);
     for n in rest {
-        total += 1 + digit_count(u32::from(*n));
+        total += 1 + number_bytes(*n);
     }
     total
 }

@@ -1,6 +1,9 @@
 -- The decimal digits of a number: that they say it, how many there are, and the last of them.
 use Rattle.std.specs.Prelude.{◌≡◌, [], ◌∷◌, ◌++◌, ℕ, zero, suc, ◌+◌, ◌-◌, ◌*◌, ◌/◌, ◌%◌, ◌^◌, ◌≤◌, ◌<◌, length}
-use Rattle.std.proofs.Common.{sym, ap, ◌∙◌, arith, pow-suc, length-append}
+use Rattle.std.proofs.Common.{sym, ap, ◌∙◌, arith, leb, pow-suc, length-append}
+use Rattle.std.proofs.Math.Decide.{dec_le}
+use Rattle.std.specs.Int.{from_bool}
+use Rattle.std.proofs.lemmas.Bool.Decides.{nat_tests}
 use Rattle.outcome.specs.Limits.{max_number}
 use Rattle.task_format.specs.Text.{zero_digit}
 use Rattle.task_format.specs.Value.{All, IsDigit, decimal}
@@ -37,9 +40,6 @@ numeral_some n = digits_some n n
 pub numeral_few : (k n : ℕ) → 1 ≤ k → n < 10 ^ k → length (numeral n) ≤ k
 numeral_few k n l h = rw (← numeral_is k n l h) (digits_few k n)
 
-pub byte_few : (n : ℕ) → n < 256 → length (numeral n) ≤ 3
-byte_few n h = numeral_few 3 n (omega arith) (omega arith)
-
 -- of a 32-bit number
 pub number_below : (n : ℕ) → n ≤ max_number → n < 10 ^ number_digits
 number_below n h = omega arith
@@ -69,3 +69,18 @@ numeral_many (suc k) n l h =
     let long : 10 ≤ n = omega (arith, p) in
     let rest = numeral_many k (n / 10) (omega (arith, p)) (omega (arith, p)) in
     ap length (numeral_long n long) ∙ length-append (numeral (n / 10)) _ ∙ omega (arith, rest)
+
+-- of a byte, as many as the comparisons with the powers of ten say
+pub byte_many : (n : ℕ) {a b : ℕ} → n < 256 → a ≡ from_bool (leb 10 n) → b ≡ from_bool (leb 100 n) → 1 + a + b ≡ length (numeral n)
+byte_many n {a} {b} few ten hundred = at (dec_le 10 n) (dec_le 100 n)
+  where
+    at : Dec (10 ≤ n) → Dec (100 ≤ n) → 1 + a + b ≡ length (numeral n)
+    at (no d) e =
+        let one : a + b ≡ 0 = grind (arith, nat_tests) in
+        omega (arith, one, ap length (numeral_short n (omega (arith, d))))
+    at (yes d) (no e) =
+        let two : a + b ≡ 1 = grind (arith, nat_tests) in
+        omega (arith, two, numeral_many 1 n (omega (arith, d)) (omega (arith, e)))
+    at (yes d) (yes e) =
+        let three : a + b ≡ 2 = grind (arith, nat_tests) in
+        omega (arith, three, numeral_many 2 n (omega (arith, e)) (omega (arith, few)))
