@@ -5,7 +5,7 @@ use Rattle.strips.specs.Task.{leader_actions}
 use Rattle.strips.specs.Plan.{Runs, cost, Least}
 use Rattle.outcome.specs.Answer.{Value, UpTo, Below}
 use Rattle.strips.specs.declared.Task.{Task}
-use Rattle.search.specs.Response.{Response}
+use Rattle.search.specs.Answer.{AnswerOf}
 
 -- the pair of a price p and an answer f covers that of p' and f'
 abbrev pub Covers : ℕ → Value → ℕ → Value → Type 0
@@ -20,7 +20,7 @@ pub record Inflicts (t : Task) (f : Value) (p : List ℕ) : Type 0 where
   pub end : ℕ
   pub attacks : Attacks t p end
   pub plan : List ℕ
-  pub response : Response t end f plan
+  pub response : AnswerOf t end f plan
 
 pub record Line : Type 0 where
   pub price : ℕ
@@ -33,7 +33,7 @@ pub record Stands (t : Task) (l : Line) : Type 0 where
   pub end : ℕ
   pub attacks : Attacks t l.leader_plan end
   pub costs : cost (leader_actions t) l.leader_plan ≡ l.price
-  pub response : Response t end l.answer l.follower_plan
+  pub response : AnswerOf t end l.answer l.follower_plan
   pub least : Least (leader_actions t) (Inflicts t l.answer) l.leader_plan
 
 pub record Lower (x y : Line) : Type 0 where
@@ -51,7 +51,7 @@ pub record Covered (t : Task) (lines : List Line) (p s : ℕ) : Type 0 where
   pub listed : Memᴰ line lines
   pub answer : Value
   pub plan : List ℕ
-  pub response : Response t s answer plan
+  pub response : AnswerOf t s answer plan
   pub covers : Covers line.price line.answer p answer
 
 -- the lines rise, each stands, and every leader plan is covered

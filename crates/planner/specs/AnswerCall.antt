@@ -6,7 +6,7 @@ use Rattle.outcome.specs.Answer.{Value, minutes, value_of}
 use Rattle.outcome.specs.Refusal.{number_of, place_of}
 use Rattle.outcome.specs.declared.Refusal.{Refusal}
 use Rattle.replay.specs.Replay.{end_state}
-use Rattle.search.specs.Response.{Response}
+use Rattle.search.specs.Answer.{AnswerOf}
 use Rattle.questions.specs.Lent.{Lent}
 use Rattle.questions.specs.Memory.{memory, none}
 use Rattle.questions.specs.Workspace.{slices_in}
@@ -35,7 +35,7 @@ answer_call t leader_plan = record {
   task = t;
   leader_plan = leader_plan;
   follower_plan = [];
-  Found = λ a. Response t (end_state (leader_actions t) t.initial leader_plan) a.answer a.plan;
+  Found = λ a. AnswerOf t (end_state (leader_actions t) t.initial leader_plan) a.answer a.plan;
   output = λ a. record { entries = []; plans = a.plan; text = [] };
   values = λ a. record { answer = a.answer; steps = length a.plan };
   zero = record { answer = minutes 0; steps = 0 };

@@ -11,9 +11,9 @@ use Rattle.strips.specs.Plan.{AtMost, cheaper, smaller, same, cost}
 use Rattle.strips.specs.Laws.Order.{trichotomy, at_most_trans, at_most_cost}
 use Rattle.strips.specs.declared.Task.{Task}
 use Rattle.outcome.specs.Laws.Answers.{below_not}
-use Rattle.search.specs.Response.{Response}
+use Rattle.search.specs.Answer.{AnswerOf}
 use Rattle.search.specs.Rows.{Among}
-use Rattle.search.specs.Laws.Response.{response_unique}
+use Rattle.search.specs.Laws.Response.{answer_unique}
 use Rattle.search.specs.Laws.Rows.{mem_among, take_among, among_take}
 use Rattle.pareto.specs.Front.{Attacks, Inflicts, Line, Stands, Lower, Rising, nil, cons, Covered, Front}
 use Rattle.planner.specs.Reading.{price_at, answer_at, rank_at, settled_at, leader_plan_at, follower_plan_at, notes, reading_at, SameReading}
@@ -130,8 +130,8 @@ module _ {t : Task} {R : List (List ℕ)} {m : ℕ} (solved : Solved t R m) wher
       where
         of : (q : List ℕ) (x : Inflicts t (answer_at R (get_or X k 0)) q) → Row q x.end → AtMost (leader_actions t) (leader_plan_at R (get_or X k 0)) q
         of q x y =
-            let response : Response t (solved.state y.at) (answer_at R (get_or X k 0)) x.plan = rw y.state x.response in
-            let answer = (response_unique (solved.response y.at y.within) response).0 in
+            let response : AnswerOf t (solved.state y.at) (answer_at R (get_or X k 0)) x.plan = rw y.state x.response in
+            let answer = (answer_unique (solved.response y.at y.within) response).0 in
             at_most_trans (leader_actions t) (noted_least k y.at h y.within answer) y.least
 
     covered : (q : List ℕ) (s : ℕ) → Row q s → Covered t (map (line_at R) (take count X)) (cost (leader_actions t) q) s

@@ -10,8 +10,8 @@ use Rattle.outcome.specs.Laws.Answers.{up_to_trans, up_to_antisym, below_not}
 use Rattle.strips.specs.Laws.Order.{least_unique}
 use Rattle.strips.specs.declared.Task.{Task}
 use Rattle.replay.specs.Laws.Steps.{runs_end}
-use Rattle.search.specs.Response.{Response}
-use Rattle.search.specs.Laws.Response.{response_unique}
+use Rattle.search.specs.Answer.{AnswerOf}
+use Rattle.search.specs.Laws.Response.{answer_unique}
 use Rattle.pareto.specs.Front.{Covers, Attacks, Line, Stands, Lower, Rising, nil, cons, Front}
 
 line : ℕ → Value → List ℕ → List ℕ → Line
@@ -43,7 +43,7 @@ module _ (t : Task) where
     pub plan : List ℕ
     pub attacks : Attacks t leader_plan end
     pub costs : cost (leader_actions t) leader_plan ≡ p
-    pub response : Response t end f plan
+    pub response : AnswerOf t end f plan
 
   module _ {xs : List Line} (front : Front t xs) where
     -- no line covers another
@@ -54,7 +54,7 @@ module _ (t : Task) where
     pub covers_all : {p : ℕ} {f : Value} → Attained p f → (l : Line) × Memᴰ l xs × Covers l.price l.answer p f
     covers_all a =
         let c = front.covered a.leader_plan a.end a.attacks in
-        let e = (response_unique a.response c.response).0 in
+        let e = (answer_unique a.response c.response).0 in
         (c.line, c.listed, (omega (arith, c.covers.0, a.costs), rw e c.covers.1))
 
     -- the pair of a line is attained
@@ -86,8 +86,8 @@ module _ (t : Task) where
   same_line {x} {y} a b p f =
       let o : x.leader_plan ≡ y.leader_plan = least_unique (leader_actions t) a.least (rw f b.least) in
       let e : a.end ≡ b.end = sym (runs_end (leader_actions t) a.attacks) ∙ runs_end (leader_actions t) (rw o b.attacks) in
-      let r : Response t a.end y.answer y.follower_plan = rw e b.response in
-      let m : x.follower_plan ≡ y.follower_plan = (response_unique a.response r).1 in
+      let r : AnswerOf t a.end y.answer y.follower_plan = rw e b.response in
+      let m : x.follower_plan ≡ y.follower_plan = (answer_unique a.response r).1 in
       build p f o m
     where
       build : x.price ≡ y.price → x.answer ≡ y.answer → x.leader_plan ≡ y.leader_plan → x.follower_plan ≡ y.follower_plan → x ≡ y
