@@ -6,7 +6,10 @@ use Rattle.questions.specs.Memory.{workspace}
 use Rattle.questions.specs.Call.{Returned}
 use Rattle.questions.specs.Workspace.{slices_in}
 use Rattle.questions.specs.declared.workspace.Workspace.{Workspace}
+use Rattle.outcome.specs.Answer.{Value, minutes, none}
+use Rattle.planner.specs.AnswerCall.{AnswerSteps}
 use Rattle.report.specs.ReportCall.{Counts}
+use Rattle.file_response.specs.ResponseCall.{ResponseCall}
 use Rattle.file_report.specs.TextCall.{TextCall}
 
 -- the first places hold the numbers, as many of them as there are places; the places beyond the numbers are as they were
@@ -21,10 +24,28 @@ read_numbers r = r.number ∷ r.place ∷ []
 abbrev pub report_numbers : Returned Counts → List ℕ
 report_numbers r = r.number ∷ r.place ∷ r.values.entries ∷ r.values.bytes ∷ []
 
--- the report of a text in lent slices, which make up a workspace, and what is told of it
-pub record ReportTold (read : Read) (S : Lent (List ℕ)) (X L R : Lent (List (List ℕ))) (room : ℕ) (plans output told : Lent (List ℕ)) : Type 0 where
+-- of an answer: whether it is none (1, and else 0), and the minutes; 0 where it is none
+abbrev pub answer_numbers : Value → List ℕ
+answer_numbers (minutes m) = 0 ∷ m ∷ []
+answer_numbers none = 1 ∷ 0 ∷ []
+
+-- of a best response: number and place, these, and the number of its steps
+abbrev pub response_numbers : Returned AnswerSteps → List ℕ
+response_numbers r = r.number ∷ r.place ∷ (answer_numbers r.values.answer ++ (r.values.steps ∷ []))
+
+-- a call in lent slices, which make up a workspace, and what is told of it
+pub record Told {A : Type 0} (S : Lent (List ℕ)) (X L R : Lent (List (List ℕ))) (Called : Lent Workspace → Returned A → Type 0)
+    (numbers : Returned A → List ℕ) (told : Lent (List ℕ)) : Type 0 where
   pub work : Lent Workspace
   pub lends : slices_in work ≡ workspace S X L R
-  pub returned : Returned Counts
-  pub call : TextCall read work room plans output returned
-  pub tells : told.after ≡ told_in (report_numbers returned) told.before
+  pub returned : Returned A
+  pub call : Called work returned
+  pub tells : told.after ≡ told_in (numbers returned) told.before
+
+-- the report of a text
+abbrev pub ReportTold : Read → Lent (List ℕ) → (X L R : Lent (List (List ℕ))) → (room : ℕ) → (plans output told : Lent (List ℕ)) → Type 0
+ReportTold read S X L R room plans output = Told S X L R (λ w r. TextCall read w room plans output r) report_numbers
+
+-- the best response in the task of a text
+abbrev pub ResponseTold : Read → List ℕ → Lent (List ℕ) → (X L R : Lent (List (List ℕ))) → (plan told : Lent (List ℕ)) → Type 0
+ResponseTold read leader_plan S X L R plan = Told S X L R (λ w r. ResponseCall read leader_plan w plan r) response_numbers

@@ -1,10 +1,12 @@
 // Numbers told in a lent slice, as far as it goes.
 ghost use Rattle.std.specs.Prelude.{◌≡◌};
 ghost use Rattle.task_reader.specs.Reading as T;
+ghost use Rattle.planner.specs.AnswerCall as A;
 ghost use Rattle.report.specs.ReportCall.{returned};
-ghost use Rattle.c_interface.specs.Told.{told_in, read_numbers, report_numbers};
+ghost use Rattle.c_interface.specs.Told.{told_in, read_numbers, report_numbers, response_numbers};
 
 use outcome::Refusal;
+use planner::Answered;
 use report::Written;
 use strips::Task;
 
@@ -23,6 +25,19 @@ pub fn tell_report(reported: Result<Written, Refusal>, told: &mut [usize])
     match reported {
         Ok(written) => tell(told, &[0, 0, written.entries, written.bytes]),
         Err(refusal) => tell(told, &[refusal.number() as usize, refusal.place(), 0, 0]),
+    }
+}
+
+// Of a best response: number and place; 1 where the answer is none, and else 0 and the minutes; how many steps.
+pub fn tell_response(answered: Result<Answered, Refusal>, told: &mut [usize])
+    ensures { told.new ≡ told_in (response_numbers (A.returned answered)) told.old }
+{
+    match answered {
+        Ok(response) => match response.answer {
+            Some(minutes) => tell(told, &[0, 0, 0, minutes.0 as usize, response.steps]),
+            None => tell(told, &[0, 0, 1, 0, response.steps]),
+        },
+        Err(refusal) => tell(told, &[refusal.number() as usize, refusal.place(), 0, 0, 0]),
     }
 }
 

@@ -31,8 +31,9 @@ use Rattle.outcome.specs.declared.Entry.{Entry}
 use Rattle.report_text.specs.Report.{report_text, refusal_text}
 use Rattle.report_text.specs.Laws.Sizes.{refusal_few}
 use Rattle.report.specs.declared.Written.{Written}
-use Rattle.report.specs.ReportCall.{Counts, counts, blank, ReportCall, returned}
-use Rattle.file_report.specs.TextCall.{places, room, plan_numbers, program_slices, unread, read_as, TextCall, Answered}
+use Rattle.report.specs.ReportCall.{Counts, counts, blank, ReportCall, report_call, own_entries, returned}
+use Rattle.text_call.specs.OnText.{OnText, unread, read_as}
+use Rattle.file_report.specs.TextCall.{places, room, plan_numbers, program_slices, Answered}
 use Rattle.file_report.specs.Printed.{input_bytes, output_bytes, lines_printed, Prints, text_refused, reach_refused, front_listed, AnswerPut}
 
 -- two answers to one text are the same
@@ -191,11 +192,12 @@ module _ {text output : List ℕ} (long : length output ≡ output_bytes) (z : (
 
 shown : {text output output' : List ℕ} {r : Returned Counts} → length output ≡ output_bytes → Answered (parse text) output output' r
     → Shown text output output' r
-shown {text} {output} {output'} {r} long x = of x.call
+shown {text} {output} {output'} {r} long x = of x.call.1
   where
-    of : TextCall (parse text) x.work room (from (replicate plan_numbers 0) x.plans) (from output output') r → Shown text output output' r
-    of (unread f y) = rw y.returns (shown_refusal f (parse_place text) (text_refused f) y.text_kept)
-    of (read_as z y) = promise_shown long z x.work x.lends y.1
+    of : OnText report_call (parse text) x.work (own_entries room x.call.0) (from (replicate plan_numbers 0) x.plans) (from output output') r
+        → Shown text output output' r
+    of (unread f y) = rw y.returns (shown_refusal f (parse_place text) (text_refused f) (ap (λ (m : Memory). m.text) y.leaves))
+    of (read_as z y) = promise_shown long z x.work x.lends y
 
 pub written_put : {text output output' : List ℕ} (w : Written) → length output ≡ output_bytes → Answered (parse text) output output' (returned (Ok w))
     → AnswerPut text output output' w.bytes

@@ -1,0 +1,2 @@
+-- What is proved about the call.
+pub mod ResponseCall

@@ -1,0 +1,2 @@
+-- What is proved about calls on a text.
+pub mod OnText
