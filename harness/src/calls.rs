@@ -1,6 +1,6 @@
 //! The proved calls, declared as `crates/c_interface` exports them, and wrapped for safe use.
 
-use crate::planner::SLICES;
+use crate::planner::{Answer, SLICES};
 use crate::random::Random;
 use crate::task::Refusal;
 
@@ -25,6 +25,25 @@ extern "C" {
         plans_len: usize,
         output: *mut u8,
         output_len: usize,
+        told: *mut usize,
+        told_len: usize,
+    );
+
+    fn faldwern_response(
+        text: *const u8,
+        text_len: usize,
+        leader_plan: *const u8,
+        leader_plan_len: usize,
+        states: *mut u64,
+        states_len: usize,
+        index: *mut Bucket,
+        index_len: usize,
+        links: *mut Link,
+        links_len: usize,
+        rows: *mut Row,
+        rows_len: usize,
+        plan: *mut u8,
+        plan_len: usize,
         told: *mut usize,
         told_len: usize,
     );
@@ -128,6 +147,50 @@ pub fn report(
     report_told(text, working, room, plans, output, &mut told);
     match told {
         [0, _, entries, bytes] => Ok(Written { entries, bytes }),
+        [number, place, ..] => Err(Refusal { number, place }),
+    }
+}
+
+/// What a successful answer call tells: the answer, and how many steps its plan has.
+#[derive(Clone, Copy, Debug, PartialEq, Eq)]
+pub struct Answered {
+    pub answer: Answer,
+    pub steps: usize,
+}
+
+/// The best response to a leader plan in the task of a text. `told` gets, as far as it goes, the number and place of a
+/// refusal or zeros, 1 where the answer is none, the minutes, and the number of steps.
+pub fn response_told(text: &[u8], leader_plan: &[u8], working: &mut Working, plan: &mut [u8], told: &mut [usize]) {
+    // SAFETY: as above.
+    unsafe {
+        faldwern_response(
+            text.as_ptr(),
+            text.len(),
+            leader_plan.as_ptr(),
+            leader_plan.len(),
+            working.states.as_mut_ptr(),
+            working.states.len(),
+            working.index.as_mut_ptr(),
+            working.index.len(),
+            working.links.as_mut_ptr(),
+            working.links.len(),
+            working.rows.as_mut_ptr(),
+            working.rows.len(),
+            plan.as_mut_ptr(),
+            plan.len(),
+            told.as_mut_ptr(),
+            told.len(),
+        )
+    }
+}
+
+/// The best response to a leader plan with what is lent, or the first question that gets no.
+pub fn response(text: &[u8], leader_plan: &[u8], working: &mut Working, plan: &mut [u8]) -> Result<Answered, Refusal> {
+    let mut told = [usize::MAX; 5];
+    response_told(text, leader_plan, working, plan, &mut told);
+    match told {
+        [0, _, 0, minutes, steps] => Ok(Answered { answer: Answer::Cost(minutes as u32), steps }),
+        [0, _, _, _, steps] => Ok(Answered { answer: Answer::None, steps }),
         [number, place, ..] => Err(Refusal { number, place }),
     }
 }

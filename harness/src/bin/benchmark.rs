@@ -1,12 +1,12 @@
-//! Times the report of a hall file's text, proved and by the other planner, and prints a table: cargo run --release --bin
-//! benchmark. Both take the same text, on one thread, one after the other.
+//! Times the report of a hall file's text and the best response in it, proved and by the other planner, and prints two
+//! tables: cargo run --release --bin benchmark. Both take the same text, on one thread, one after the other.
 
 use std::hint::black_box;
 use std::time::{Duration, Instant};
 
-use harness::calls::{report, Working};
+use harness::calls::{report, response, Working};
 use harness::halls::{Family, FAMILIES};
-use harness::planner::{run, Lent, MAX_PLACES, SLICES};
+use harness::planner::{respond, run, Lent, MAX_PLACES, SLICES};
 use harness::random::Random;
 use harness::task::write;
 
@@ -62,6 +62,32 @@ fn other<'t>(text: &'t [u8], lent: &'t Lent) -> impl FnMut() -> Duration + 't {
     }
 }
 
+/// The proved best response to no leader action at all, in soiled slices.
+fn proved_response<'t>(text: &'t [u8], lent: &'t Lent) -> impl FnMut() -> Duration + 't {
+    let mut random = Random::new(SEED);
+    let mut working = Working::clear(lent.places);
+    let mut plan = vec![0; lent.plans];
+    move || {
+        working.soil(&mut random);
+        let start = Instant::now();
+        let answered = response(black_box(text), &[], &mut working, &mut plan);
+        let time = start.elapsed();
+        assert_eq!(answered.unwrap().steps, lent.plans);
+        time
+    }
+}
+
+/// The other planner's.
+fn other_response<'t>(text: &'t [u8], lent: &'t Lent) -> impl FnMut() -> Duration + 't {
+    move || {
+        let start = Instant::now();
+        let found = respond(black_box(text), &[], lent);
+        let time = start.elapsed();
+        assert_eq!(found.unwrap().plan.len(), lent.plans);
+        time
+    }
+}
+
 struct Row {
     reach: usize,
     exact: Duration,
@@ -110,6 +136,25 @@ fn print_family(family: &Family) {
     }
 }
 
+/// The answer call on a family's largest task.
+fn print_response(family: &Family) {
+    let text = write(&(family.of)(family.most));
+    let reach = run(&text, &Lent::most()).expect("a family's task fits").reach;
+    let places = [reach; SLICES];
+    let found = respond(&text, &[], &Lent { places, ..Lent::most() }).expect("a family's task fits");
+    let lent = Lent { places, entries: 0, plans: found.plan.len(), text: 0 };
+    let [exact, other] = medians([&mut proved_response(&text, &lent), &mut other_response(&text, &lent)]);
+    println!(
+        "| {} | {} | {} | {} | {} | {:.2} |",
+        family.name,
+        reach,
+        lent.plans,
+        milliseconds(exact),
+        milliseconds(other),
+        exact.as_secs_f64() / other.as_secs_f64(),
+    );
+}
+
 fn main() {
     println!("Times are in milliseconds, each the median of {FEWEST_CALLS} to {MOST_CALLS} calls, from a hall file's text to the report's text.");
     println!(
@@ -122,4 +167,10 @@ fn main() {
     println!("| hall | reach | lines | plan numbers | proved, exact | proved, {MAX_PLACES} places | Rust planner | ratio | reach grows | proved grows | Rust grows |");
     println!("|---|--:|--:|--:|--:|--:|--:|--:|--:|--:|--:|");
     FAMILIES.iter().for_each(print_family);
+    println!();
+    println!("The best response to no leader action, from the text to the plan, in exact slices:");
+    println!();
+    println!("| hall | reach | steps | proved, exact | Rust planner | ratio |");
+    println!("|---|--:|--:|--:|--:|--:|");
+    FAMILIES.iter().for_each(print_response);
 }
