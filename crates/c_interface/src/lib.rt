@@ -2,7 +2,7 @@
 // four working slices come one by one, and a workspace is made of them here.
 #![tactic(auto)]
 
-mod telling;
+mod told;
 
 ghost use Rattle.std.specs.Prelude.{◌≡◌};
 ghost use Rattle.task_format.specs.Parse.{parse};
@@ -14,7 +14,7 @@ use file_response::response_in;
 use questions::Workspace;
 use rows::{BUCKET_WORDS, LINK_WORDS, WORDS};
 use task_reader::read;
-use telling::{tell_reading, tell_report, tell_response};
+use told::{tell_reading, tell_report, tell_response};
 
 // The report of the task that a text says, in lent slices with room for so many entries. The first places of told get the
 // number of the first question that gets no or 0, its place, the number of entries and the number of bytes.

@@ -29,7 +29,7 @@ abbrev pub program_slices : List Slice
 program_slices = four_slices (replicate places 0) (replicate places (replicate 4 0)) (replicate places (replicate 64 0)) (replicate places (replicate 8 0))
 
 -- the same with what the program lends
-pub record Answered (read : Read) (output output' : List ℕ) (r : Returned Counts) : Type 0 where
+pub record ProgramCall (read : Read) (output output' : List ℕ) (r : Returned Counts) : Type 0 where
   pub work : Lent Workspace
   pub lends : (slices_in work).before ≡ program_slices
   pub plans : List ℕ

@@ -12,7 +12,7 @@ use Rattle.outcome.specs.declared.Refusal.{Refusal}
 use Rattle.replay.specs.Replay.{returned, refused, replayed}
 use Rattle.replay.specs.Run.{Ran, Stuck, AllKnown, Unknown, Numbered}
 use Rattle.replay.specs.Laws.Replay.{middle, refuses_11_leader, refuses_11_follower, refuses_12_leader, refuses_12_follower, both_run}
-use Rattle.replay.specs.declared.running.Progress.{Progress}
+use Rattle.replay.specs.declared.steps.Progress.{Progress}
 
 module _ (t : Task) (p q : List ℕ) where
   module _ (v : Valid t) (l : length p ≤ max_steps) (k : length q ≤ max_steps) where

@@ -8,7 +8,7 @@ use Rattle.strips.specs.declared.Task.{Task}
 use Rattle.outcome.specs.declared.Refusal.{Refusal}
 use Rattle.outcome.specs.declared.Refusal.TheVariants.{UnknownAction, NotApplicable}
 use Rattle.replay.specs.Replay.{known_steps, applied_steps, end_state}
-use Rattle.replay.specs.declared.running.Progress.{Progress}
+use Rattle.replay.specs.declared.steps.Progress.{Progress}
 
 -- question 11 for a plan whose steps are counted on from earlier ones:
 -- each step is the number of one of n actions, or the refusal says which is the first that is not

@@ -1,10 +1,10 @@
 // The replay of a leader plan and then a follower plan.
 #![tactic(auto)]
 
-mod running;
+mod steps;
 
 use outcome::{Minutes, Price};
-pub use running::{replay, replay_valid};
+pub use steps::{replay, replay_valid};
 
 // A leader plan and then a follower plan, run from the initial state.
 #[derive(Clone, Copy)]

@@ -2,8 +2,8 @@
 // specs/Report.antt.
 #![tactic(auto)]
 
-mod counting;
-mod putting;
+mod parts;
+mod sizes;
 
-pub use counting::{digit_count, entry_bytes, head_bytes, plan_bytes};
-pub use putting::{put_entry, put_head, put_refusal};
+pub use parts::{put_entry, put_head, put_refusal};
+pub use sizes::{digit_count, entry_bytes, head_bytes, plan_bytes};

@@ -11,13 +11,13 @@ use Rattle.task_format.specs.declared.Kind.{Kind}
 use Rattle.task_format.specs.declared.Kind.TheVariants.{Number, FactList}
 
 -- a number is not above the upper bound of its kind
-abbrev pub AtMost : Kind → ℕ → Type 0
-AtMost (Number low high) x = x ≤ high
-AtMost (FactList most) x = Unit {0}
+abbrev pub FitsKind : Kind → ℕ → Type 0
+FitsKind (Number low high) x = x ≤ high
+FitsKind (FactList most) x = Unit {0}
 
 -- the first line of the text, which is line n and due, says x; `rest` is behind it
 pub record Says (facts n : ℕ) (text : List ℕ) (x : ℕ) (rest : List ℕ) : Type 0 where
-  pub small : AtMost (kind_of facts n) x
+  pub small : FitsKind (kind_of facts n) x
   pub shorter : length rest < length text
   pub goes : (t : Task) → t.facts ≡ facts → n ≤ last_line t → follow (lines text) n t ≡ follow (lines rest) (n + 1) (stored t n x)
 
@@ -29,7 +29,7 @@ Stops facts n text q = (t : Task) → t.facts ≡ facts → n ≤ last_line t �
 pub record Storable (t : Task) (n x : ℕ) : Type 0 where
   pub one : 1 ≤ n
   pub room : Room t (action_of n)
-  pub small : AtMost (kind_of t.facts n) x
+  pub small : FitsKind (kind_of t.facts n) x
 
 -- the counts are within their limits
 pub record Small (t : Task) : Type 0 where

@@ -24,10 +24,10 @@ pub data Bad (most n : ℕ) (ms : List ℕ) : Refusal → Type 0 where
   flat : All (Between 1 most) ms → (RisesFrom 0 ms → ⊥) → Bad most n ms (NotRising n)
 
 -- what the members ms of line n come to
-abbrev pub Read : ℕ → ℕ → List ℕ → Result Members Refusal → Type 0
-Read most n ms (Ok m) = Good most ms m
-Read most n ms (Err q) = Bad most n ms q
+abbrev pub MembersRead : ℕ → ℕ → List ℕ → Result Members Refusal → Type 0
+MembersRead most n ms (Ok m) = Good most ms m
+MembersRead most n ms (Err q) = Bad most n ms q
 
 -- what a member more makes of it, whichever the members before it were
 abbrev pub Joined : ℕ → ℕ → Result Members Refusal → ℕ → Result Members Refusal → Type 0
-Joined most n before k after = (ms : List ℕ) → Read most n ms before → Read most n (ms ++ (k ∷ [])) after
+Joined most n before k after = (ms : List ℕ) → MembersRead most n ms before → MembersRead most n (ms ++ (k ∷ [])) after

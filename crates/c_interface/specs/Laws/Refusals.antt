@@ -3,7 +3,8 @@ use Rattle.std.specs.Prelude.{◌≡◌, refl, [], ◌∷◌, ℕ, ◌-◌, get_
 use Rattle.outcome.specs.Refusal.{number_of, place_of}
 use Rattle.outcome.specs.declared.Refusal.{Refusal}
 use Rattle.outcome.specs.declared.Refusal.TheVariants.{TextTooLong, LineMissing, WrongKey, Malformed, OutOfRange, NotRising, TextGoesOn, WorkspaceSize}
-use Rattle.outcome.specs.declared.Refusal.TheVariants.{InvalidTask, PlanTooLong, UnknownAction, NotApplicable, TooManyStates, TooManyEntries, PlansTooLong, OutputTooLong}
+use Rattle.outcome.specs.declared.Refusal.TheVariants.{InvalidTask, PlanTooLong, UnknownAction, NotApplicable}
+use Rattle.outcome.specs.declared.Refusal.TheVariants.{TooManyStates, TooManyEntries, PlansTooLong, OutputTooLong}
 
 -- the refusal of a question at a place
 unfoldable pub refusal_of : (number place : ℕ) → Refusal

@@ -33,7 +33,7 @@ use Rattle.report_text.specs.Laws.Sizes.{refusal_few}
 use Rattle.report.specs.declared.Written.{Written}
 use Rattle.report.specs.ReportCall.{Counts, counts, blank, ReportCall, report_call, own_entries, returned}
 use Rattle.text_call.specs.OnText.{OnText, unread, read_as}
-use Rattle.file_report.specs.TextCall.{places, room, plan_numbers, program_slices, Answered}
+use Rattle.file_report.specs.TextCall.{places, room, plan_numbers, program_slices, ProgramCall}
 use Rattle.file_report.specs.Printed.{input_bytes, output_bytes, lines_printed, Prints, text_refused, reach_refused, front_listed, AnswerPut}
 
 -- two answers to one text are the same
@@ -190,7 +190,7 @@ module _ {text output : List ℕ} (long : length output ≡ output_bytes) (z : (
         bytes = ap (λ (u : Returned Counts). u.values.bytes) d.holds.returns;
       })
 
-shown : {text output output' : List ℕ} {r : Returned Counts} → length output ≡ output_bytes → Answered (parse text) output output' r
+shown : {text output output' : List ℕ} {r : Returned Counts} → length output ≡ output_bytes → ProgramCall (parse text) output output' r
     → Shown text output output' r
 shown {text} {output} {output'} {r} long x = of x.call.1
   where
@@ -199,7 +199,7 @@ shown {text} {output} {output'} {r} long x = of x.call.1
     of (unread f y) = rw y.returns (shown_refusal f (parse_place text) (text_refused f) (ap (λ (m : Memory). m.text) y.leaves))
     of (read_as z y) = promise_shown long z x.work x.lends y
 
-pub written_put : {text output output' : List ℕ} (w : Written) → length output ≡ output_bytes → Answered (parse text) output output' (returned (Ok w))
+pub written_put : {text output output' : List ℕ} (w : Written) → length output ≡ output_bytes → ProgramCall (parse text) output output' (returned (Ok w))
     → AnswerPut text output output' w.bytes
 written_put {text} {output} {output'} w long a = of (shown {text = text} long a)
   where
@@ -213,7 +213,7 @@ pub record Refuses (text output output' : List ℕ) (q : Refusal) : Type 0 where
   pub prints : Prints text (refusal_text (number_of q) (place_of q))
   pub kept : output' ≡ output
 
-pub refused_prints : {text output output' : List ℕ} {q : Refusal} → length output ≡ output_bytes → Answered (parse text) output output' (returned (Err q))
+pub refused_prints : {text output output' : List ℕ} {q : Refusal} → length output ≡ output_bytes → ProgramCall (parse text) output output' (returned (Err q))
     → Refuses text output output' q
 refused_prints {text} {output} {output'} {q = q} long a = of (shown {text = text} long a)
   where

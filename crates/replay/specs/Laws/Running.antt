@@ -10,7 +10,7 @@ use Rattle.outcome.specs.declared.Refusal.TheVariants.{NotApplicable}
 use Rattle.replay.specs.Replay.{applied_steps, end_state}
 use Rattle.replay.specs.Run.{Runnable, Running, Ran, Stuck}
 use Rattle.replay.specs.Laws.Steps.{known_each, applied_more, applied_no_more, applied_end, end_more, cost_more}
-use Rattle.replay.specs.declared.running.Progress.{Progress}
+use Rattle.replay.specs.declared.steps.Progress.{Progress}
 
 -- the costs of a plan's steps stay below the largest number: there `plus` gives the plain sum
 plain_sum : (i c a : ℕ) → i < max_steps → c ≤ i * max_cost → a ≤ max_cost → min (c + a) max_number ≡ c + a

@@ -24,7 +24,7 @@ use Rattle.task_format.specs.Laws.Text.{lines_first}
 use Rattle.task_format.specs.Laws.Parse.{follow_end, follow_missing, follow_over, follow_key, follow_value, judged_yes, judged_no, fault_form, fault_range}
 use Rattle.task_format.specs.declared.Kind.{Kind}
 use Rattle.value_reader.specs.Answered.{Answered}
-use Rattle.task_reader.specs.Line.{AtMost, Says, Stops, Small, OnLine}
+use Rattle.task_reader.specs.Line.{FitsKind, Says, Stops, Small, OnLine}
 
 -- ---- the first line of a text
 
@@ -87,7 +87,7 @@ in_range kind v e = of (dec_in_form kind v) (dec_in_range kind v)
     of (yes f) (no r) = absurd (omega (arith, e, fault_range kind v f r))
     of (no f) d = absurd (omega (arith, e, fault_form kind v f))
 
-content_small : (kind : Kind) (v : List ℕ) → InRange kind v → AtMost kind (content kind v)
+content_small : (kind : Kind) (v : List ℕ) → InRange kind v → FitsKind kind (content kind v)
 unfolding InRange content
 content_small kind v r = grind arith
 
@@ -130,7 +130,7 @@ small_zeros : Small zeros
 unfolding zeros
 small_zeros = grind arith
 
-small_stored : (t : Task) (n x : ℕ) → Small t → AtMost (kind_of t.facts n) x → Small (stored t n x)
+small_stored : (t : Task) (n x : ℕ) → Small t → FitsKind (kind_of t.facts n) x → Small (stored t n x)
 unfolding stored with_action kind_of
 small_stored t n x s h = grind arith
 

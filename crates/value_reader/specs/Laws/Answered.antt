@@ -11,7 +11,7 @@ use Rattle.task_format.specs.Laws.Value.{members_some}
 use Rattle.task_format.specs.Laws.Parse.{fault_form, fault_range, fault_rising, fault_none}
 use Rattle.task_format.specs.declared.Kind.TheVariants.{Number, FactList}
 use Rattle.value_reader.specs.Answered.{Answered}
-use Rattle.value_reader.specs.Members.{Bad, outside, flat, Read, Joined}
+use Rattle.value_reader.specs.Members.{Bad, outside, flat, MembersRead, Joined}
 use Rattle.value_reader.specs.declared.values.Members.{Members}
 
 -- ---- a number
@@ -47,7 +47,7 @@ list_empty most n v e = rw e (fault_none (FactList most) [] (inl refl) tt tt, re
 -- the parts read so far are numbers, and their members come to r
 pub record Listed (most n : ℕ) (ps : List (List ℕ)) (r : Result Members Refusal) : Type 0 where
   pub numbers : All IsNumber ps
-  pub read : Read most n (map decimal ps) r
+  pub read : MembersRead most n (map decimal ps) r
 
 pub listed_begin : (most n : ℕ) → Listed most n [] (Ok (record { last = 0; set = 0 }))
 unfolding set_of
