@@ -3,10 +3,11 @@ use Rattle.std.specs.Prelude.{◌≡◌, refl, Bool, true, false, List, [], ◌�
 use Rattle.std.proofs.Common.{inl, inr, ⊎_elim, arith, eqb-true, leb-true, leb-false}
 use Rattle.std.proofs.Math.Logic.Dec
 use Rattle.std.proofs.lemmas.Bool.{eqb-false}
-use Rattle.strips.specs.Decision.{dec_when, dec_equivalent}
+use Rattle.strips.specs.Decision.{dec_when}
 use Rattle.task_format.specs.Limits.{max_digits}
-use Rattle.task_format.specs.Text.{zero_digit, parts}
-use Rattle.task_format.specs.Value.{All, IsNumber, decimal, members, RisesFrom, Rises, Between, InForm, InRange, Ascending}
+use Rattle.task_format.specs.Text.{comma, zero_digit, parts}
+use Rattle.task_format.specs.Value.{All, IsDigit, Present, Short, NoLeadingZero, decimal, members, RisesFrom, Rises, Between}
+use Rattle.task_format.specs.Value.{InForm, Filled, Unpadded, InRange, Ascending}
 use Rattle.task_format.specs.declared.Kind.{Kind}
 use Rattle.task_format.specs.declared.Kind.TheVariants.{Number, FactList}
 
@@ -44,12 +45,17 @@ dec_all d (x ∷ l) = Dec.and (d x) (dec_all d l)
 unfoldable pub dec_between : (low high n : ℕ) → Dec (Between low high n)
 dec_between low high n = Dec.and (dec_at_most low n) (dec_at_most n high)
 
-unfoldable pub dec_number : (v : List ℕ) → Dec (IsNumber v)
-dec_number v =
-    dec_equivalent
-    (λ w. record { some = w.0; few = w.1.0; digits = w.1.1.0; plain = w.1.1.1 }, λ n. (n.some, (n.few, (n.digits, n.plain))))
-    (Dec.and (dec_at_most 1 (length v)) (Dec.and (dec_at_most (length v) max_digits)
-    (Dec.and (dec_all (dec_between zero_digit (zero_digit + 9)) v) (dec_when (dec_same (get_or v 0 0) zero_digit) (dec_same (length v) 1)))))
+unfoldable pub dec_digit : (b : ℕ) → Dec (IsDigit b)
+dec_digit b = dec_between zero_digit (zero_digit + 9) b
+
+unfoldable pub dec_present : (v : List ℕ) → Dec (Present v)
+dec_present v = dec_at_most 1 (length v)
+
+unfoldable pub dec_short : (v : List ℕ) → Dec (Short v)
+dec_short v = dec_at_most (length v) max_digits
+
+unfoldable pub dec_no_leading_zero : (v : List ℕ) → Dec (NoLeadingZero v)
+dec_no_leading_zero v = dec_when (dec_same (get_or v 0 0) zero_digit) (dec_same (length v) 1)
 
 unfoldable pub dec_rises_from : (m : ℕ) (ms : List ℕ) → Dec (RisesFrom m ms)
 dec_rises_from m [] = yes tt
@@ -61,8 +67,18 @@ dec_rises (m ∷ ms) = dec_rises_from m ms
 
 unfoldable pub dec_in_form : (kind : Kind) (v : List ℕ) → Dec (InForm kind v)
 unfolding InForm
-dec_in_form (Number low high) v = dec_number v
-dec_in_form (FactList most) v = dec_either (dec_empty v) (dec_all dec_number (parts v))
+dec_in_form (Number low high) v = Dec.and (Dec.and (dec_all {P = IsDigit} dec_digit v) (dec_short v)) (dec_present v)
+dec_in_form (FactList most) v = Dec.and (dec_all (λ b. dec_either (dec_digit b) (dec_same b comma)) v) (dec_all {P = Short} dec_short (parts v))
+
+unfoldable pub dec_filled : (kind : Kind) (v : List ℕ) → Dec (Filled kind v)
+unfolding Filled
+dec_filled (Number low high) v = yes tt
+dec_filled (FactList most) v = dec_either (dec_empty v) (dec_all {P = Present} dec_present (parts v))
+
+unfoldable pub dec_unpadded : (kind : Kind) (v : List ℕ) → Dec (Unpadded kind v)
+unfolding Unpadded
+dec_unpadded (Number low high) v = dec_no_leading_zero v
+dec_unpadded (FactList most) v = dec_all {P = NoLeadingZero} dec_no_leading_zero (parts v)
 
 unfoldable pub dec_in_range : (kind : Kind) (v : List ℕ) → Dec (InRange kind v)
 unfolding InRange

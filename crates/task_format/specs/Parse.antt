@@ -1,4 +1,4 @@
--- What a text says: the questions 1 to 7, and the record.
+-- What a text says: the questions 1 to 7, 17 and 18, and the record.
 use Rattle.std.specs.Prelude.{List, [], ◌∷◌, ℕ, suc, ◌+◌, length, drop, replicate}
 use Rattle.strips.specs.Decision.{ask}
 use Rattle.strips.specs.Limits.{max_leader, max_follower}
@@ -8,7 +8,7 @@ use Rattle.task_format.specs.Limits.{max_text}
 use Rattle.task_format.specs.Text.{lines, begins}
 use Rattle.task_format.specs.Value.{content}
 use Rattle.task_format.specs.Lines.{key_of, kind_of, last_line, task_of, stored}
-use Rattle.task_format.specs.Deciders.{dec_same, dec_at_most, dec_true, dec_in_form, dec_in_range, dec_ascending}
+use Rattle.task_format.specs.Deciders.{dec_same, dec_at_most, dec_true, dec_in_form, dec_filled, dec_unpadded, dec_in_range, dec_ascending}
 use Rattle.task_format.specs.declared.Kind.{Kind}
 
 -- number and place of the first question that gets no, 0 and 0 where none does, and the record
@@ -29,7 +29,8 @@ accepted t = record { number = 0; place = 0; task = t }
 
 -- the number of the first question about a value that gets no, or 0
 unfoldable pub fault : Kind → List ℕ → ℕ
-fault kind v = ask (dec_in_form kind v) 4 (ask (dec_in_range kind v) 5 (ask (dec_ascending kind v) 6 0))
+fault kind v =
+    ask (dec_in_form kind v) 4 (ask (dec_filled kind v) 17 (ask (dec_unpadded kind v) 18 (ask (dec_in_range kind v) 5 (ask (dec_ascending kind v) 6 0))))
 
 -- the questions about the value of line n, and the rest where each gets a yes
 unfoldable pub judged : Kind → List ℕ → ℕ → Read → Read

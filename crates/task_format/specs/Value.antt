@@ -1,8 +1,8 @@
--- A line's value: what it says, and the questions 4, 5 and 6, each about the whole value.
+-- A line's value: what it says, and the questions 4, 17, 18, 5 and 6, each about the whole value.
 use Rattle.std.specs.Prelude.{◌≡◌, List, [], ◌∷◌, map, ◌⊎◌, ℕ, ◌+◌, ◌-◌, ◌*◌, ◌^◌, ◌≤◌, ◌<◌, length, get_or}
 use Rattle.strips.specs.Limits.{max_facts}
 use Rattle.task_format.specs.Limits.{max_digits}
-use Rattle.task_format.specs.Text.{zero_digit, parts}
+use Rattle.task_format.specs.Text.{comma, zero_digit, parts}
 use Rattle.task_format.specs.declared.Kind.{Kind}
 use Rattle.task_format.specs.declared.Kind.TheVariants.{Number, FactList}
 
@@ -20,6 +20,16 @@ pub record IsNumber (v : List ℕ) : Type 0 where
   pub few : length v ≤ max_digits
   pub digits : All IsDigit v
   pub plain : get_or v 0 0 ≡ zero_digit → length v ≡ 1
+
+-- of the bytes of a number: there is one, there are at most five, and the first is a zero only in "0" itself
+abbrev pub Present : List ℕ → Type 0
+Present v = 1 ≤ length v
+
+abbrev pub Short : List ℕ → Type 0
+Short v = length v ≤ max_digits
+
+abbrev pub NoLeadingZero : List ℕ → Type 0
+NoLeadingZero v = get_or v 0 0 ≡ zero_digit → length v ≡ 1
 
 -- the number that digits say, behind those that say n
 unfoldable pub decimal_from : ℕ → List ℕ → ℕ
@@ -46,10 +56,20 @@ Rises (m ∷ ms) = RisesFrom m ms
 abbrev pub Between : ℕ → ℕ → ℕ → Type 0
 Between low high n = (low ≤ n) × (n ≤ high)
 
--- question 4: has the value the form of a number or list?
+-- question 4: are there only digits, and in a list commas, no number has too many of them, and on a number's line there is one?
 unfoldable pub InForm : Kind → List ℕ → Type 0
-InForm (Number low high) v = IsNumber v
-InForm (FactList most) v = (v ≡ []) ⊎ All IsNumber (parts v)
+InForm (Number low high) v = (All IsDigit v × Short v) × Present v
+InForm (FactList most) v = All (λ b. IsDigit b ⊎ (b ≡ comma)) v × All Short (parts v)
+
+-- question 17: is no place of a list empty?
+unfoldable pub Filled : Kind → List ℕ → Type 0
+Filled (Number low high) v = Unit {0}
+Filled (FactList most) v = (v ≡ []) ⊎ All Present (parts v)
+
+-- question 18: has no number a leading zero?
+unfoldable pub Unpadded : Kind → List ℕ → Type 0
+Unpadded (Number low high) v = NoLeadingZero v
+Unpadded (FactList most) v = All NoLeadingZero (parts v)
 
 -- question 5: is every number in its range?
 unfoldable pub InRange : Kind → List ℕ → Type 0

@@ -132,15 +132,18 @@ examples =
     ∷ front (hall 2 2 0 2) attacks (line 0 (minutes 7) (1 ∷ []) (2 ∷ []) ∷ line 5 none (1 ∷ 2 ∷ []) [] ∷ [])
     -- replay of moves 1, 1: 12, step 2
     ∷ replay worked [] (1 ∷ 1 ∷ []) 12 2
-    -- the empty text: 2, line 1; facts=0: 5; facts=64 passes, so that line 2 is missing; facts=65: 5; facts=007: 4
+    -- the empty text: 2, line 1; facts=0: 5; facts=64 passes, so that line 2 is missing; facts=65: 5; facts=007: 18
     ∷ refusal [] 2 1
     ∷ refusal (bytes "facts=0\n") 5 1
     ∷ refusal (bytes "facts=64\n") 2 2
     ∷ refusal (bytes "facts=65\n") 5 1
-    ∷ refusal (bytes "facts=007\n") 4 1
+    ∷ refusal (bytes "facts=007\n") 18 1
     -- with four facts start=3,1: 6; start=5,1: 5
     ∷ refusal (bytes "facts=4\nstart=3,1\n") 6 2
     ∷ refusal (bytes "facts=4\nstart=5,1\n") 5 2
+    -- an empty place wins over a leading zero before it, and a foreign byte behind them over both
+    ∷ refusal (bytes "facts=4\nstart=01,\n") 17 2
+    ∷ refusal (bytes "facts=4\nstart=01,,x\n") 4 2
     -- a carriage return before a line's end: 4; a blank line at the end: 7, at the line behind the last
     ∷ refusal (bytes "facts=4\r\n") 4 1
     ∷ refusal (text ++ bytes "\n\n") 7 22

@@ -21,8 +21,9 @@ use Rattle.task_format.specs.Laws.Parse.{judged_yes, judged_no, follow_end, foll
 use Rattle.task_format.specs.Laws.Text.{key_of_lem}
 use Rattle.task_format.specs.Laws.Decimal.{Without, all_append}
 use Rattle.task_format.specs.declared.Kind.{Kind}
+use Rattle.task_format.proofs.Fault.{Fine, fault_none, fine}
 use Rattle.round_trip.specs.Laws.Pieces.{split_join, ended, Last, last_of, last_behind}
-use Rattle.round_trip.specs.Laws.Values.{Fine, value_fine, value_content, fine_value, fine_holds, no_fault, fine, value_plain}
+use Rattle.round_trip.specs.Laws.Values.{value_fine, value_content, fine_value, fine_holds, value_plain}
 use Rattle.round_trip.specs.Laws.Fields.{found_field, kept_field}
 use Rattle.round_trip.specs.Laws.Built.{Built, place, built_stored, due_stored, facts_kept, kind_same, Agree, task_same}
 
@@ -103,7 +104,7 @@ module _ (t : Task) (v : Valid t) where
       follow_value n g _ ls (due_agree n g a l) (begins_self (key_of n) w)
       ∙ ap (λ (u : List ℕ). judged (kind_of g.facts n) u n (follow ls (n + 1) (stored g n (content (kind_of g.facts n) u)))) (drop-append_seam (key_of n) w)
       ∙ ap (λ (k : Kind). judged k w n (follow ls (n + 1) (stored g n (content k w)))) e
-      ∙ judged_yes kind w n _ (no_fault kind w (value_fine kind (field t n) m f))
+      ∙ judged_yes kind w n _ (fault_none kind w (value_fine kind (field t n) m f))
       ∙ ap (λ (x : ℕ). follow ls (n + 1) (stored g n x)) (value_content kind (field t n) m f)
 
   agree_next : (n : ℕ) (g : Task) → 1 ≤ n → n ≤ last_line t → Built n g → Agree n g t → Agree (n + 1) (stored g n (field t n)) t

@@ -4,13 +4,12 @@ use Rattle.std.proofs.Common.{sym, ap, ◌∙◌, append-nil, inl, inr, ⊎_elim
 use Rattle.strips.specs.Limits.{max_facts}
 use Rattle.task_format.specs.Limits.{max_digits}
 use Rattle.task_format.specs.Text.{newline, comma, parts}
-use Rattle.task_format.specs.Value.{All, IsNumber, decimal, members, InForm, InRange, Ascending, set_of, content, OfKind, Modest}
+use Rattle.task_format.specs.Value.{All, IsNumber, decimal, members, InRange, Ascending, set_of, content, OfKind, Modest}
 use Rattle.task_format.specs.Render.{digits, facts_of, listed, value_text}
-use Rattle.task_format.specs.Parse.{fault}
 use Rattle.task_format.specs.Laws.Digits.{digits_some}
 use Rattle.task_format.specs.Laws.Value.{members_some}
-use Rattle.task_format.specs.Laws.Parse.{fault_form, fault_range, fault_rising, fault_none}
-use Rattle.task_format.specs.Deciders.{dec_in_form, dec_in_range, dec_ascending}
+use Rattle.task_format.proofs.Form.{WellFormed}
+use Rattle.task_format.proofs.Fault.{Fine}
 use Rattle.task_format.specs.declared.Kind.{Kind}
 use Rattle.task_format.specs.declared.Kind.TheVariants.{Number, FactList}
 use Rattle.task_format.specs.Laws.Decimal.{Without, all_append, digits_without}
@@ -69,13 +68,8 @@ listed_members (m ∷ ms) s =
 
 -- ---- the value that says x
 
-pub record Fine (kind : Kind) (v : List ℕ) : Type 0 where
-  pub form : InForm kind v
-  pub range : InRange kind v
-  pub rising : Ascending kind v
-
 pub value_fine : (kind : Kind) (x : ℕ) → Modest kind → OfKind kind x → Fine kind (value_text kind x)
-unfolding value_text InForm InRange Ascending
+unfolding value_text WellFormed InRange Ascending
 value_fine (Number low high) x m h =
     let e = digits_say x (omega (arith, h.1)) in
     record { form = digits_number x (omega (arith, h.1)); range = rw e h; rising = tt }
@@ -108,29 +102,15 @@ list_is (b ∷ v) f =
     (λ a. parts_joined (b ∷ v) ∙ ap joined (all_digits (parts (b ∷ v)) a) ∙ sym (listed_joined (map decimal (parts (b ∷ v))))) f
 
 pub fine_value : (kind : Kind) (v : List ℕ) → Fine kind v → v ≡ value_text kind (content kind v)
-unfolding value_text content InForm InRange Ascending
+unfolding value_text content WellFormed InRange Ascending
 fine_value (Number low high) v f = number_digits_lem v f.form
 fine_value (FactList most) v f =
     list_is v f.form ∙ ap (listed true) (sym (set_facts most (members v) (above most (members v) f.range f.rising)))
 
 pub fine_holds : (kind : Kind) (v : List ℕ) → Fine kind v → OfKind kind (content kind v)
-unfolding content InForm InRange Ascending
+unfolding content WellFormed InRange Ascending
 fine_holds (Number low high) v f = f.range
 fine_holds (FactList most) v f = set_small most (members v) (above most (members v) f.range f.rising)
-
--- ---- faults
-
-pub no_fault : (kind : Kind) (v : List ℕ) → Fine kind v → fault kind v ≡ 0
-no_fault kind v f = fault_none kind v f.form f.range f.rising
-
-pub fine : (kind : Kind) (v : List ℕ) → fault kind v ≡ 0 → Fine kind v
-fine kind v e = of (dec_in_form kind v) (dec_in_range kind v) (dec_ascending kind v)
-  where
-    of : Dec (InForm kind v) → Dec (InRange kind v) → Dec (Ascending kind v) → Fine kind v
-    of (yes f) (yes g) (yes h) = record { form = f; range = g; rising = h }
-    of (no n) g h = absurd (let z = fault_form kind v n in omega (arith, z, e))
-    of (yes f) (no n) h = absurd (let z = fault_range kind v f n in omega (arith, z, e))
-    of (yes f) (yes g) (no n) = absurd (let z = fault_rising kind v f g n in omega (arith, z, e))
 
 -- ---- a value has no newline
 

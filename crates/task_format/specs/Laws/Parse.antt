@@ -7,29 +7,13 @@ use Rattle.strips.specs.Laws.Decision.{asked_yes, asked_no}
 use Rattle.strips.specs.declared.Task.{Task}
 use Rattle.task_format.specs.Limits.{max_text}
 use Rattle.task_format.specs.Text.{lines, begins}
-use Rattle.task_format.specs.Value.{InForm, InRange, Ascending, content}
+use Rattle.task_format.specs.Value.{content}
 use Rattle.task_format.specs.Lines.{key_of, kind_of, last_line, stored}
 use Rattle.task_format.specs.Parse.{Read, zeros, refused, accepted, fault, judged, follow, parse}
-use Rattle.task_format.specs.Deciders.{dec_same, dec_at_most, dec_true, dec_in_form, dec_in_range, dec_ascending}
+use Rattle.task_format.specs.Deciders.{dec_same, dec_at_most, dec_true}
 use Rattle.task_format.specs.declared.Kind.{Kind}
 
 module _ (kind : Kind) (v : List ℕ) where
-  pub fault_form : (InForm kind v → ⊥) → fault kind v ≡ 4
-  unfolding fault
-  fault_form n = asked_no (dec_in_form kind v) n 4 _
-
-  pub fault_range : InForm kind v → (InRange kind v → ⊥) → fault kind v ≡ 5
-  unfolding fault
-  fault_range f n = asked_yes (dec_in_form kind v) f 4 _ ∙ asked_no (dec_in_range kind v) n 5 _
-
-  pub fault_rising : InForm kind v → InRange kind v → (Ascending kind v → ⊥) → fault kind v ≡ 6
-  unfolding fault
-  fault_rising f g n = asked_yes (dec_in_form kind v) f 4 _ ∙ asked_yes (dec_in_range kind v) g 5 _ ∙ asked_no (dec_ascending kind v) n 6 0
-
-  pub fault_none : InForm kind v → InRange kind v → Ascending kind v → fault kind v ≡ 0
-  unfolding fault
-  fault_none f g h = asked_yes (dec_in_form kind v) f 4 _ ∙ asked_yes (dec_in_range kind v) g 5 _ ∙ asked_yes (dec_ascending kind v) h 6 0
-
   pub judged_yes : (n : ℕ) (rest : Read) → fault kind v ≡ 0 → judged kind v n rest ≡ rest
   unfolding judged
   judged_yes n rest e = asked_yes (dec_same (fault kind v) 0) e _ rest

@@ -16,12 +16,12 @@ use Rattle.outcome.specs.declared.Refusal.TheVariants.{LineMissing, WrongKey}
 use Rattle.strips.specs.declared.Task.{Task}
 use Rattle.strips.specs.Laws.Choice.{either, never}
 use Rattle.task_format.specs.Text.{line_end, first_line, behind_line, begins, split, lines}
-use Rattle.task_format.specs.Value.{InForm, InRange, content}
+use Rattle.task_format.specs.Value.{InRange, content}
 use Rattle.task_format.specs.Lines.{key_of, kind_of, last_line, stored, with_action}
-use Rattle.task_format.specs.Parse.{zeros, refused, accepted, fault, judged, follow}
-use Rattle.task_format.specs.Deciders.{dec_in_form, dec_in_range}
+use Rattle.task_format.specs.Parse.{zeros, refused, accepted, judged, follow}
 use Rattle.task_format.specs.Laws.Text.{lines_first}
-use Rattle.task_format.specs.Laws.Parse.{follow_end, follow_missing, follow_over, follow_key, follow_value, judged_yes, judged_no, fault_form, fault_range}
+use Rattle.task_format.specs.Laws.Parse.{follow_end, follow_missing, follow_over, follow_key, follow_value, judged_yes, judged_no}
+use Rattle.task_format.proofs.Fault.{fine}
 use Rattle.task_format.specs.declared.Kind.{Kind}
 use Rattle.value_reader.specs.Answered.{Answered}
 use Rattle.task_reader.specs.Line.{FitsKind, Says, Stops, Small, OnLine}
@@ -79,14 +79,6 @@ module _ (n : ℕ) (front key : List ℕ) (is : key ≡ key_of n) (r : Option (B
 
 -- ---- a value that no question refuses
 
-in_range : (kind : Kind) (v : List ℕ) → fault kind v ≡ 0 → InRange kind v
-in_range kind v e = of (dec_in_form kind v) (dec_in_range kind v)
-  where
-    of : Dec (InForm kind v) → Dec (InRange kind v) → InRange kind v
-    of (yes f) (yes r) = r
-    of (yes f) (no r) = absurd (omega (arith, e, fault_range kind v f r))
-    of (no f) d = absurd (omega (arith, e, fault_form kind v f))
-
 content_small : (kind : Kind) (v : List ℕ) → InRange kind v → FitsKind kind (content kind v)
 unfolding InRange content
 content_small kind v r = grind arith
@@ -119,7 +111,7 @@ module _ (facts n : ℕ) (text : List ℕ) where
       pub says_value : (x : ℕ) → Answered (kind_of facts n) v n (Ok x) → Says facts n text x rest
       says_value x a =
           record {
-            small = rw a.1 (content_small (kind_of facts n) v (in_range (kind_of facts n) v a.0));
+            small = rw a.1 (content_small (kind_of facts n) v (fine (kind_of facts n) v a.0).range);
             shorter = rw others (behind_short text some);
             goes = λ t f d. line t f d ∙ judged_yes (kind_of facts n) v n _ a.0 ∙ ap (λ (y : ℕ). follow (lines rest) (n + 1) (stored t n y)) (sym a.1);
           }

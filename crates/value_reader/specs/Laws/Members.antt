@@ -13,7 +13,7 @@ use Rattle.value_reader.specs.declared.values.Members.{Members}
 pub all_push : {A : Type 0} (P : A → Type 0) (l : List A) (x : A) → All P l → P x → All P (l ++ (x ∷ []))
 all_push P l x a p = grind (arith, common_steps)
 
-all_last : {A : Type 0} (P : A → Type 0) (l : List A) (x : A) → All P (l ++ (x ∷ [])) → All P l × P x
+pub all_last : {A : Type 0} (P : A → Type 0) (l : List A) (x : A) → All P (l ++ (x ∷ [])) → All P l × P x
 all_last P [] x a = (tt, a.0)
 all_last P (y ∷ l) x a = let r = all_last P l x a.1 in ((a.0, r.0), r.1)
 

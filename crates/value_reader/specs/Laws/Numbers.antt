@@ -4,7 +4,7 @@ use Rattle.std.proofs.Common.{rules, arith}
 use Rattle.std.proofs.lemmas.Grind.{common_steps}
 use Rattle.task_format.specs.Limits.{max_digits}
 use Rattle.task_format.specs.Text.{zero_digit}
-use Rattle.task_format.specs.Value.{All, IsDigit, IsNumber, decimal_from, decimal}
+use Rattle.task_format.specs.Value.{All, IsDigit, decimal_from, decimal}
 
 -- the first i bytes of v are digits, which say n
 pub record Digits (v : List ℕ) (i n : ℕ) : Type 0 where
@@ -22,6 +22,6 @@ module _ {v : List ℕ} {i n : ℕ} (s : Digits v i n) where
   unfolding decimal_from
   digits_more h d = grind (arith, common_steps)
 
-  pub digits_all : length v ≤ i → 1 ≤ length v → length v ≤ max_digits → (get_or v 0 0 ≡ zero_digit → length v ≡ 1) → IsNumber v × (n ≡ decimal v)
+  pub digits_all : length v ≤ i → All IsDigit v × (n ≡ decimal v)
   unfolding decimal_from
-  digits_all h l m z = grind (arith, common_steps)
+  digits_all h = grind (arith, common_steps)

@@ -15,11 +15,11 @@ use Rattle.outcome.specs.Laws.Answers.{up_to_is}
 use Rattle.pareto.specs.Front.{Line}
 use Rattle.replay.specs.Replay.{replayed, passing, end_state}
 use Rattle.task_format.specs.Text.{newline, split, begins}
-use Rattle.task_format.specs.Value.{decimal_from, members, set_of, content, InForm, InRange, Ascending}
+use Rattle.task_format.specs.Value.{decimal_from, members, set_of, content, InForm, Filled, Unpadded, InRange, Ascending}
 use Rattle.task_format.specs.Lines.{key_of, kind_of, stored, with_action, action_key, part_of, action_field, field}
 use Rattle.task_format.specs.Parse.{parse, follow, judged, fault, zeros}
-use Rattle.task_format.specs.Deciders.{dec_same, dec_at_most, dec_true, dec_either, dec_empty, dec_all, dec_between, dec_number, dec_rises_from, dec_rises}
-use Rattle.task_format.specs.Deciders.{dec_in_form, dec_in_range, dec_ascending}
+use Rattle.task_format.specs.Deciders.{dec_same, dec_at_most, dec_true, dec_either, dec_empty, dec_all, dec_between, dec_rises_from, dec_rises, dec_digit}
+use Rattle.task_format.specs.Deciders.{dec_present, dec_short, dec_no_leading_zero, dec_in_form, dec_filled, dec_unpadded, dec_in_range, dec_ascending}
 use Rattle.task_format.specs.Render.{digits_of, facts_of, listed, value_text, line_text, lines_text, render}
 use Rattle.round_trip.specs.Theorems.{written_read, written_cut_read}
 use Rattle.worked.specs.Check.{both, either, every, some, every_up_to, when, same_list, same_value, below, holds, not_later, at_most, runs_to, serves, closed}
@@ -33,8 +33,9 @@ pub all_pass : every test examples ≡ true
 unfolding every test examples both either some every_up_to when same_list same_value up_to below holds not_later at_most runs_to serves closed tabled responds
     answered rises stands covers attack_nodes is_front among not distinct is_reach act hall worked node attack line attacks second lines text
     first_covers render lines_text line_text value_text listed facts_of digits_of field action_field part_of action_key parse follow judged fault zeros
-    content decimal_from members set_of InForm InRange Ascending key_of kind_of stored with_action split begins dec_number dec_either dec_empty dec_all
-    dec_between dec_rises_from dec_rises dec_in_form dec_in_range dec_ascending dec_same dec_at_most dec_true replayed passing end_state ask says
+    content decimal_from members set_of InForm Filled Unpadded InRange Ascending key_of kind_of stored with_action split begins dec_digit dec_present
+    dec_short dec_no_leading_zero dec_either dec_empty dec_all dec_between dec_rises_from dec_rises dec_in_form dec_filled dec_unpadded dec_in_range
+    dec_ascending dec_same dec_at_most dec_true replayed passing end_state ask says
     leader_actions follower_actions dec_holds after cost ℕ_discrete dec_le dec_lt dec_valid dec_places dec_unused dec_proper dec_within dec_when
     dec_all_below Dec.and dec_equivalent dec_known
 all_pass = refl

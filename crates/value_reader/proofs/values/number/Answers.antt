@@ -1,5 +1,5 @@
 -- `value_reader::values::number` meets its contract.
-use Rattle.std.proofs.Common.{rules, arith, ⊎_elim}
+use Rattle.std.proofs.Common.{arith}
 use Rattle.value_reader.specs.Laws.Numbers.{digits_more, digits_all}
 use Rattle.value_reader.proofs.values.number.Goals as goal
 
@@ -10,5 +10,5 @@ loop-byte-preserved c =
 
 pub returns-clause-some : goal.returns-clause-some
 returns-clause-some c =
-    digits_all c.loop-byte.invariant c.loop-byte-test.false (search rules) c.if-bytes-gt-MAX_DIGITS.false
-    (λ e. ⊎_elim (λ h. h.1) (λ h. absurd (h e)) c.else-bytes-eq48.either)
+    let d = digits_all c.loop-byte.invariant c.loop-byte-test.false in
+    (d.0, omega (arith, c.if-bytes-gt-MAX_DIGITS.false), d.1)
