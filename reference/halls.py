@@ -128,11 +128,48 @@ def toll(rng):
 KINDS = [free, free, belts, detour, ties, cube, stuck, ladder, toll]
 
 
+# Values that break a rule on most lines, many of them two rules, in one order and the other.
+VALUES = [
+    b"",
+    *b"0 00 02 007 00004 00007 000007 010000 0000000 64 65 10000 10001 99999 100000".split(),
+    *b"1,1 2,2 2,1 3,1 5,x x,5 , ,, 1, ,1 1,,2 2,,1 65, ,65 1,,x x,,1 ,000001 000001,".split(),
+    *b"01, ,01 01,,2 1,,02 01,x x,01 0,01 01,0 01,000002 000001,02 01,65 65,01".split(),
+    *b"01,5 5,01 3,01 03,1 1,02 02,1 2,02 02,2 1,2,03".split(),
+]
+
+
+def empty_place(rng, value):
+    """A comma more: before the first number, beside another comma or behind the last number."""
+    parts = value.split(b",")
+    parts.insert(rng.randint(0, len(parts)), b"")
+    return b",".join(parts)
+
+
+def zero_in_front(rng, value):
+    parts = value.split(b",")
+    at = rng.randrange(len(parts))
+    parts[at] = rng.choice([b"0", b"0", b"0000", b"00000"]) + parts[at]
+    return b",".join(parts)
+
+
+def foreign_byte(rng, value):
+    at = rng.randint(0, len(value))
+    return value[:at] + rng.choice([b"\r", b" ", b"x", b"-", b"\xff"]) + value[at:]
+
+
+def spoilt(rng, value):
+    """The value with one fault put into it, or with several."""
+    for fault in rng.choices([empty_place, zero_in_front, foreign_byte], [2, 3, 1], k=rng.choice([1, 1, 2, 3])):
+        value = fault(rng, value)
+    return value
+
+
 def damaged(rng, text):
-    """The text with one fault of some kind, or with none: not every change breaks a rule."""
+    """The text with a fault of some kind, or with none: not every change breaks a rule."""
     lines = text.split(b"\n")
     at = rng.randrange(len(lines))
-    kind = rng.randrange(12)
+    key, _, value = lines[at].partition(b"=")
+    kind = rng.randrange(14)
     if kind == 0:
         return text[:-1]
     if kind == 1:
@@ -144,11 +181,11 @@ def damaged(rng, text):
     elif kind == 4:
         lines.insert(at, lines[at])
     elif kind == 5:
-        lines[at] += rng.choice([b"\r", b" ", b",", b"0", b",0", b",1", b"x", b",64", b"\xff"])
+        lines[at] += rng.choice([b"\r", b" ", b",", b"0", b",0", b",1", b"x", b",64", b"\xff", b",,1", b",01", b",00"])
     elif kind == 6:
-        lines[at] = lines[at].replace(b"=", rng.choice([b"=0", b"=,", b"= ", b"==", b""]), 1)
+        lines[at] = lines[at].replace(b"=", rng.choice([b"=0", b"=,", b"= ", b"==", b"", b"=0,", b"=,0"]), 1)
     elif kind == 7:
-        lines[at] = lines[at].partition(b"=")[0] + b"=" + rng.choice([b"", b"0", b"00", b"007", b"65", b"64", b"10000", b"10001", b"99999", b"100000", b"2,2", b"2,1", b"5,x", b"1,", b",1", b"1,,2"])
+        lines[at] = key + b"=" + rng.choice(VALUES)
     elif kind == 8:
         lines[at] = lines[at].upper()
     elif kind == 9:
@@ -156,8 +193,10 @@ def damaged(rng, text):
     elif kind == 10:
         place = rng.randrange(len(text))
         return text[:place] + bytes([rng.randrange(256)]) + text[place + 1 :]
-    else:
+    elif kind == 11:
         return text + b"#" * rng.choice([28_672 - len(text), 28_673 - len(text)])
+    else:
+        lines[at] = key + b"=" + spoilt(rng, value)
     return b"\n".join(lines)
 
 

@@ -183,10 +183,20 @@ pub fn any(random: &mut Random) -> Task {
     kind(random)
 }
 
-/// The text with one fault of some kind, or with none: not every change breaks a rule.
+/// What is put behind a line.
+const ENDS: [&[u8]; 12] = [b"\r", b" ", b",", b"0", b",0", b",1", b"x", b",64", b"\xff", b",,1", b",01", b",00"];
+
+/// Values that break a rule on most lines, many of them two rules, in one order and the other. Blanks part them, and the
+/// first is empty.
+const VALUES: &str = " 0 00 02 007 00004 00007 000007 010000 0000000 64 65 10000 10001 99999 100000 \
+    1,1 2,2 2,1 3,1 5,x x,5 , ,, 1, ,1 1,,2 2,,1 65, ,65 1,,x x,,1 ,000001 000001, \
+    01, ,01 01,,2 1,,02 01,x x,01 0,01 01,0 01,000002 000001,02 01,65 65,01 \
+    01,5 5,01 3,01 03,1 1,02 02,1 2,02 02,2 1,2,03";
+
+/// The text with a fault of some kind, or with none: not every change breaks a rule.
 pub fn damaged(random: &mut Random, text: &[u8]) -> Vec<u8> {
     let mut text = text.to_vec();
-    match random.within(0, 5) {
+    match random.within(0, 9) {
         0 => text.truncate(text.len() - 1),
         1 => text.extend_from_slice(random.of(&[b"\n" as &[u8], b"x", b"cost=1\n", b"\n\n"])),
         2 => text.truncate(random.within(0, text.len())),
@@ -204,54 +214,50 @@ fn damaged_line(random: &mut Random, text: &[u8]) -> Vec<u8> {
     let mut lines: Vec<Vec<u8>> = text.split(|&byte| byte == b'\n').map(<[u8]>::to_vec).collect();
     let at = random.within(0, lines.len() - 1);
     let equals = lines[at].iter().position(|&byte| byte == b'=').unwrap_or(0);
-    match random.within(0, 6) {
+    let value = (equals + 1).min(lines[at].len());
+    match random.within(0, 8) {
         0 => {
             lines.remove(at);
         }
         1 => lines.insert(at, lines[at].clone()),
-        2 => lines[at].extend_from_slice(random.of(&[
-            b"\r" as &[u8],
-            b" ",
-            b",",
-            b"0",
-            b",0",
-            b",1",
-            b"x",
-            b",64",
-            b"\xff",
-        ])),
+        2 => lines[at].extend_from_slice(random.of(&ENDS)),
         3 => {
-            let sign = random.of(&[b"=0" as &[u8], b"=,", b"= ", b"==", b""]);
-            let after = (equals + 1).min(lines[at].len());
-            lines[at].splice(equals..after, sign.iter().copied());
+            let sign = random.of(&[b"=0" as &[u8], b"=,", b"= ", b"==", b"", b"=0,", b"=,0"]);
+            lines[at].splice(equals..value, sign.iter().copied());
         }
         4 => {
-            let values = [
-                b"" as &[u8],
-                b"0",
-                b"00",
-                b"007",
-                b"65",
-                b"64",
-                b"10000",
-                b"10001",
-                b"99999",
-                b"100000",
-                b"2,2",
-                b"2,1",
-                b"5,x",
-                b"1,",
-                b",1",
-                b"1,,2",
-            ];
-            let value = random.of(&values);
-            lines[at].truncate(equals + 1);
-            lines[at].extend_from_slice(value);
+            let values: Vec<&str> = VALUES.split(' ').collect();
+            lines[at].truncate(value);
+            lines[at].extend_from_slice(random.of(&values).as_bytes());
         }
         5 => lines[at].make_ascii_uppercase(),
-        _ => lines[at].clear(),
+        6 => lines[at].clear(),
+        _ => {
+            let other = spoilt(random, &lines[at][value..]);
+            lines[at].splice(value.., other);
+        }
     }
     lines.join(&b'\n')
+}
+
+/// The value with one fault put into it, or with several: an empty place, a zero in front of a number, a foreign byte.
+fn spoilt(random: &mut Random, value: &[u8]) -> Vec<u8> {
+    let mut parts: Vec<Vec<u8>> = value.split(|&byte| byte == b',').map(<[u8]>::to_vec).collect();
+    for _ in 0..random.of(&[1, 1, 2, 3]) {
+        let part = random.within(0, parts.len() - 1);
+        match random.within(0, 5) {
+            0 | 1 => parts.insert(random.within(0, parts.len()), Vec::new()),
+            2 => {
+                let place = random.within(0, parts[part].len());
+                parts[part].insert(place, random.of(b"\r x-\xff"));
+            }
+            _ => {
+                let zeros = random.of(&[1, 1, 4, 5]);
+                parts[part].splice(..0, vec![b'0'; zeros]);
+            }
+        }
+    }
+    parts.join(&b',')
 }
 
 /// A text: the file of a random task three times in four, else a damaged one.

@@ -8,6 +8,9 @@ pub const MAX_FOLLOWER: usize = 32;
 pub const MAX_COST: u32 = 10_000;
 const MAX_DIGITS: usize = 5;
 
+/// The questions have the numbers from 1 to this.
+pub const QUESTIONS: usize = 18;
+
 /// The first question that gets no: its number, and its place or 0.
 #[derive(Clone, Copy, Debug, PartialEq, Eq)]
 pub struct Refusal {
@@ -19,6 +22,12 @@ impl Refusal {
     /// A refusal that names no place.
     pub fn of(number: usize) -> Refusal {
         Refusal { number, place: 0 }
+    }
+
+    /// Whether the question comes before the search, so that every lent place is as it was: one about the text (1 to 7,
+    /// 17 and 18), or about what else is given and lent (8 to 12).
+    pub fn is_before_the_search(&self) -> bool {
+        matches!(self.number, 1..=12 | 17 | 18)
     }
 }
 
@@ -75,11 +84,17 @@ impl<'t> Lines<'t> {
 
     fn number(&mut self, key: &str, low: u32, high: u32) -> Result<u32, Refusal> {
         let value = self.value(key)?;
-        match numeral(value) {
-            None => self.refuse(4),
-            Some(number) if number < low || high < number => self.refuse(5),
-            Some(number) => Ok(number),
+        if value.is_empty() || !has_form(value) {
+            return self.refuse(4);
         }
+        if has_leading_zero(value) {
+            return self.refuse(18);
+        }
+        let number = numeral(value);
+        if number < low || high < number {
+            return self.refuse(5);
+        }
+        Ok(number)
     }
 
     fn set(&mut self, key: &str, facts: usize) -> Result<u64, Refusal> {
@@ -87,10 +102,17 @@ impl<'t> Lines<'t> {
         if value.is_empty() {
             return Ok(0);
         }
-        let members: Option<Vec<u32>> = value.split(|&byte| byte == b',').map(numeral).collect();
-        let Some(members) = members else {
+        let parts = || value.split(|&byte| byte == b',');
+        if !parts().all(has_form) {
             return self.refuse(4);
-        };
+        }
+        if parts().any(<[u8]>::is_empty) {
+            return self.refuse(17);
+        }
+        if parts().any(has_leading_zero) {
+            return self.refuse(18);
+        }
+        let members: Vec<u32> = parts().map(numeral).collect();
         if members.iter().any(|&member| member < 1 || facts < member as usize) {
             return self.refuse(5);
         }
@@ -114,14 +136,20 @@ impl<'t> Lines<'t> {
     }
 }
 
-/// One to five digits, no leading zero except "0" itself.
-fn numeral(value: &[u8]) -> Option<u32> {
-    let digits = !value.is_empty() && value.len() <= MAX_DIGITS && value.iter().all(u8::is_ascii_digit);
-    let led_by_zero = value.len() > 1 && value[0] == b'0';
-    (digits && !led_by_zero).then(|| value.iter().fold(0, |number, digit| number * 10 + u32::from(digit - b'0')))
+/// At most five digits and nothing else; it may be empty.
+fn has_form(part: &[u8]) -> bool {
+    part.len() <= MAX_DIGITS && part.iter().all(u8::is_ascii_digit)
 }
 
-/// The task that a text says, or the first of questions 1 to 7 that gets no.
+fn has_leading_zero(part: &[u8]) -> bool {
+    part.len() > 1 && part[0] == b'0'
+}
+
+fn numeral(digits: &[u8]) -> u32 {
+    digits.iter().fold(0, |number, digit| number * 10 + u32::from(digit - b'0'))
+}
+
+/// The task that a text says, or the first of questions 1 to 7, 17 and 18 that gets no.
 pub fn read(text: &[u8]) -> Result<Task, Refusal> {
     if text.len() > MAX_TEXT {
         return Err(Refusal::of(1));

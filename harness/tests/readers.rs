@@ -1,14 +1,14 @@
 //! The proved reader and the other one agree on hall files and damaged texts.
 
 use harness::random::Random;
-use harness::task::{self, write};
+use harness::task::{self, write, QUESTIONS};
 use harness::{calls, halls};
 
 const SEED: u64 = 20_261;
-const FILES: usize = 40_000;
+const FILES: usize = 60_000;
 
 /// How often each number was told, 0 for an accepted text.
-fn compare(text: &[u8], numbers: &mut [usize; 8]) {
+fn compare(text: &[u8], numbers: &mut [usize; QUESTIONS + 1]) {
     let expected = task::read(text).map(|_| ());
     assert_eq!(calls::read(text), expected, "text {:?}", String::from_utf8_lossy(text));
     numbers[expected.err().map_or(0, |refusal| refusal.number)] += 1;
@@ -18,14 +18,18 @@ fn compare(text: &[u8], numbers: &mut [usize; 8]) {
 fn files_and_damaged_files() {
     println!("seed {SEED}");
     let mut random = Random::new(SEED);
-    let mut numbers = [0; 8];
+    let mut numbers = [0; QUESTIONS + 1];
     for _ in 0..FILES {
         let text = write(&halls::any(&mut random));
         compare(&text, &mut numbers);
         compare(&halls::damaged(&mut random, &text), &mut numbers);
     }
     println!("texts by number: {numbers:?}");
-    assert!(numbers.iter().all(|&times| times > 0), "a number never came up: {numbers:?}");
+    let unused = 8..=16;
+    assert!(
+        (0..=QUESTIONS).all(|number| (numbers[number] > 0) != unused.contains(&number)),
+        "numbers that came up: {numbers:?}"
+    );
 }
 
 #[test]
@@ -41,7 +45,7 @@ fn what_is_read_back_is_the_task() {
 #[test]
 fn only_the_first_places_are_told() {
     let cases =
-        [(&b"facts=007\n"[..], [4, 1]), (b"", [2, 1]), (b"facts=1\nstart=\ngoal=\noutages=0\nmoves=0\n", [0, 0])];
+        [(&b"facts=007\n"[..], [18, 1]), (b"", [2, 1]), (b"facts=1\nstart=\ngoal=\noutages=0\nmoves=0\n", [0, 0])];
     for (text, expected) in cases {
         for length in 0..5 {
             let mut told = vec![77; length];

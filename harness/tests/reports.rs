@@ -4,7 +4,7 @@ use harness::calls::{report, report_told, Working, Written};
 use harness::halls::{any_text, FAMILIES};
 use harness::planner::{run, Lent, Report, MAX_PLACES, SLICES};
 use harness::random::Random;
-use harness::task::{write, Refusal};
+use harness::task::{write, Refusal, QUESTIONS};
 
 const SEED: u64 = 20_262;
 const TEXTS: usize = 30_000;
@@ -38,7 +38,7 @@ impl Slices {
                 left.plans[..report.plans.len()].copy_from_slice(&report.plans);
                 left.output[..report.text.len()].copy_from_slice(&report.text);
             }
-            Err(refusal) if refusal.number < 13 => {}
+            Err(refusal) if refusal.is_before_the_search() => {}
             Err(_) => left.working = Working::clear(self.working.places()),
         }
         left
@@ -86,7 +86,7 @@ fn fitting(random: &mut Random, report: &Report) -> Lent {
 fn random_texts() {
     println!("seed {SEED}");
     let mut random = Random::new(SEED);
-    let mut numbers = [0; 17];
+    let mut numbers = [0; QUESTIONS + 1];
     for _ in 0..TEXTS {
         let text = any_text(&mut random);
         let lent = match run(&text, &Lent { places: [LARGE; SLICES], ..Lent::most() }) {
@@ -99,7 +99,7 @@ fn random_texts() {
     println!("texts by number: {numbers:?}");
     let unused = [9, 10, 11, 12];
     assert!(
-        (0..17).all(|number| (numbers[number] > 0) != unused.contains(&number)),
+        (0..=QUESTIONS).all(|number| (numbers[number] > 0) != unused.contains(&number)),
         "numbers that came up: {numbers:?}"
     );
 }

@@ -4,7 +4,7 @@ use harness::calls::{response, response_told, Answered, Working};
 use harness::halls::any_text;
 use harness::planner::{respond, run, Lent, Response, MAX_PLACES, MAX_STEPS, SLICES};
 use harness::random::Random;
-use harness::task::{read, Refusal, Task};
+use harness::task::{read, Refusal, Task, QUESTIONS};
 
 const SEED: u64 = 20_264;
 const TEXTS: usize = 30_000;
@@ -13,7 +13,7 @@ const STATE: &[u8] = b"facts=1\nstart=1\ngoal=1\noutages=0\nmoves=0\n";
 /// What the call has to leave in the working slices.
 fn left(before: &Working, outcome: &Result<Response, Refusal>) -> Working {
     match outcome {
-        Err(refusal) if refusal.number < 13 => before.clone(),
+        Err(refusal) if refusal.is_before_the_search() => before.clone(),
         _ => Working::clear(before.places()),
     }
 }
@@ -82,7 +82,7 @@ fn fitting(random: &mut Random, reach: usize, steps: usize) -> Lent {
 fn random_leader_plans() {
     println!("seed {SEED}");
     let mut random = Random::new(SEED);
-    let mut numbers = [0; 16];
+    let mut numbers = [0; QUESTIONS + 1];
     for _ in 0..TEXTS {
         let text = any_text(&mut random);
         let leader_plan = any_leader_plan(&mut random, &read(&text).unwrap_or_default());
@@ -94,9 +94,9 @@ fn random_leader_plans() {
         numbers[outcome.err().map_or(0, |refusal| refusal.number)] += 1;
     }
     println!("texts by number: {numbers:?}");
-    let unused = [9, 14];
+    let unused = [9, 14, 16];
     assert!(
-        (0..16).all(|number| (numbers[number] > 0) != unused.contains(&number)),
+        (0..=QUESTIONS).all(|number| (numbers[number] > 0) != unused.contains(&number)),
         "numbers that came up: {numbers:?}"
     );
 }
