@@ -25,7 +25,7 @@ lines_printed lines =
     (ask (dec_at_most (length (plans_for lines)) plan_numbers) (refusal_text 15 0)
     (ask (dec_at_most (length (report_text lines)) output_bytes) (refusal_text 16 0) (report_text lines)))
 
--- for a text: questions 1 to 7, then 13, then those about the lines
+-- for a text: the questions about it, then 13, then those about the lines
 pub data Prints (text : List ℕ) : List ℕ → Type 0 where
   text_refused : 1 ≤ (parse text).number → Prints text (refusal_text (parse text).number (parse text).place)
   reach_refused : (parse text).number ≡ 0 → (Fits (parse text).task places → ⊥) → Prints text (refusal_text 13 0)

@@ -1,4 +1,4 @@
-// Reads a hall file: questions 1 to 7 of a text, and the task that it says.
+// Reads a hall file: the questions about a text, and the task that it says.
 #![tactic(auto)]
 
 mod fields;

@@ -39,7 +39,7 @@ fn read_line(text: &[u8], line: usize, facts: u32) -> Result<(u64, &[u8]), Refus
     Ok((content, rest))
 }
 
-// Questions 2 to 7, up to the first that gets no.
+// The questions about the lines of a text, up to the first that gets no.
 pub fn read_lines(text: &[u8]) -> Result<Task, Refusal>
     ensures { returned result ≡ follow (lines text.now) 1 zeros }
 {

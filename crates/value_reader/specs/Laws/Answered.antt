@@ -82,10 +82,6 @@ listed_more most n ps p k r s {f = f} {u = u} l d h e present plain j =
       read = rw (map-append decimal ps (p ∷ []), ← e) (j (map decimal ps) l.read);
     }
 
--- all parts are read
-pub at_end : (most n : ℕ) (ps qs : List (List ℕ)) {f u : Bool} {r : Result Members Refusal} → ps ≡ qs → Listed most n ps f u r → Listed most n qs f u r
-at_end most n ps qs e l = rw (← e) l
-
 module _ (most n : ℕ) (v : List ℕ) (some : v ≡ [] → ⊥) where
   -- a part with another byte, or too long
   pub list_malformed : (i : ℕ) (p d : List ℕ) → i < length (parts v) → p ≡ get_or (parts v) i d → (All IsDigit p × Short p → ⊥)

@@ -1,12 +1,12 @@
 -- `value_reader::values::read_list` meets its contract.
-use Rattle.std.specs.Prelude.{◌≡◌, None, []}
+use Rattle.std.specs.Prelude.{◌≡◌, None, [], map}
 use Rattle.std.proofs.Common.{arith, rules, tests}
 use Rattle.std.proofs.lemmas.List.{map-append, nil_from_length}
 use Rattle.std.proofs.lemmas.Result.{err_from_is_err_and}
 use Rattle.outcome.specs.declared.Refusal.TheVariants.{Malformed}
 use Rattle.task_format.specs.Text.{parts}
 use Rattle.task_format.specs.Value.{All, IsDigit, Short, decimal}
-use Rattle.value_reader.specs.Laws.Answered.{Listed, listed_begin, listed_more, at_end}
+use Rattle.value_reader.specs.Laws.Answered.{Listed, listed_begin, listed_more}
 use Rattle.value_reader.specs.Laws.Answered.{list_empty, list_malformed, list_not_filled, list_padded, list_good, list_bad}
 use Rattle.value_reader.proofs.Parts.{part_turn, part_end}
 use Rattle.value_reader.proofs.values.read_list.Goals.{After-split-part-items, After-next}
@@ -20,8 +20,9 @@ some c e = search rules
 all : (c : After-next) → c.next.result ≡ None
     → Listed c.args.most c.args.line (parts c.args.value.now) c.loop-part.filled c.loop-part.unpadded c.loop-part.members
 all c e =
-    let read = part_end _ _ _ c.loop-part.yielded _ c.loop-part.yielded_by _ _ c.next.ensures.steps (cc) (cc) (λ x b q k. search (rules, tests)) e in
-    at_end _ _ _ _ read c.loop-part.invariant
+    let read : map (λ p. p.now) c.loop-part.yielded ≡ parts c.args.value.now =
+    part_end _ _ _ c.loop-part.yielded _ c.loop-part.yielded_by _ _ c.next.ensures.steps (cc) (cc) (λ x b q k. search (rules, tests)) e in
+    rw (← read) c.loop-part.invariant
 
 pub returns-then-is_empty : goal.returns-then-is_empty
 returns-then-is_empty c = list_empty c.args.most c.args.line c.args.value.now (search (rules, nil_from_length))
