@@ -1,48 +1,33 @@
 -- A text's first line, and what it adds to the record of the lines before it.
-use Rattle.std.specs.Prelude.{◌≡◌, refl, true, false, cond, Option, Some, None, MatchOption, Ok, Err}
-use Rattle.std.specs.Prelude.{List, [], ◌∷◌, ◌++◌, ℕ, ◌+◌, ◌-◌, ◌≤◌, ◌<◌, eqb, ltb, length, take, drop}
-use Rattle.std.proofs.Common.{sym, ap, ◌∙◌, arith, length-drop, take_all, drop_of_length-le}
+use Rattle.std.specs.Prelude.{◌≡◌, refl, true, false, Option, Some, None, MatchOption, Ok, Err}
+use Rattle.std.specs.Prelude.{List, [], ◌∷◌, ◌++◌, ℕ, ◌+◌, ◌≤◌, ◌<◌, eqb, length, take, drop}
+use Rattle.std.proofs.Common.{sym, ap, ◌∙◌, arith, length-drop, take-append-drop, append_assoc}
 use Rattle.std.proofs.Math.Seq.{drop-append_seam}
 use Rattle.std.specs.Borrow.{Bor}
 use Rattle.std.specs.Cmp.Lexicographic.{pointwise}
 use Rattle.std.proofs.lemmas.Bool.Decides.{Decides-eqb}
-use Rattle.std.proofs.lemmas.Option.{MatchOption-at_some, MatchOption-at_none, cond_some}
+use Rattle.std.proofs.lemmas.Option.{MatchOption-at_some, MatchOption-at_none}
 use Rattle.std.proofs.lemmas.Slice.Eq.{strip_prefix_is}
 use borrow.Author.Tests.{eq-eqb, eqb-true}
 use Rattle.outcome.specs.Refusal.{number_of}
 use Rattle.outcome.specs.Laws.Refusal.{number_some}
 use Rattle.outcome.specs.declared.Refusal.{Refusal}
-use Rattle.outcome.specs.declared.Refusal.TheVariants.{LineMissing, WrongKey}
+use Rattle.outcome.specs.declared.Refusal.TheVariants.{LineMissing, WrongKey, Malformed}
 use Rattle.strips.specs.declared.Task.{Task}
 use Rattle.strips.specs.Laws.Choice.{either, never}
 use Rattle.task_format.specs.Text.{line_end, first_line, behind_line, begins, split, lines}
-use Rattle.task_format.specs.Value.{InRange, content}
+use Rattle.task_format.specs.Value.{InForm, InRange, content}
 use Rattle.task_format.specs.Lines.{key_of, kind_of, last_line, stored, with_action}
 use Rattle.task_format.specs.Parse.{zeros, refused, accepted, judged, follow}
-use Rattle.task_format.specs.Laws.Text.{lines_first}
+use Rattle.task_format.specs.Laws.Text.{key_of_lem, lines_first}
 use Rattle.task_format.specs.Laws.Parse.{follow_end, follow_missing, follow_over, follow_key, follow_value, judged_yes, judged_no}
-use Rattle.task_format.proofs.Fault.{fine}
+use Rattle.task_format.proofs.Fault.{fault_form, fine}
 use Rattle.task_format.specs.declared.Kind.{Kind}
 use Rattle.value_reader.specs.Answered.{Answered}
+use Rattle.task_reader.specs.Laws.Cut.{first_behind}
 use Rattle.task_reader.specs.Line.{FitsKind, Says, Stops, Small, OnLine}
 
--- ---- the first line of a text
-
--- where the first newline is, and where none is
-module _ (t : List ℕ) where
-  abbrev pub place : Option ℕ
-  place = cond (ltb (line_end t) (length t)) (Some (line_end t)) None
-
-  pub cut_some : (at : ℕ) → place ≡ Some at → (take at t ≡ first_line t) × (take (length t - (at + 1)) (drop (at + 1) t) ≡ behind_line t)
-  cut_some at e =
-      let is : at ≡ line_end t = sym (cond_some _ _ _ e).1 in
-      rw is (refl, take_all (length t - (line_end t + 1)) (drop (line_end t + 1) t) (omega (arith, length-drop (line_end t + 1) t)))
-
-  pub cut_none : place ≡ None → (t ≡ first_line t) × (take (length t - length t) (drop (length t) t) ≡ behind_line t)
-  cut_none e =
-      let h : length t ≤ line_end t = grind arith in
-      let z : length t - length t ≡ 0 = omega arith in
-      (sym (take_all (line_end t) t h), rw z (sym (drop_of_length-le t {i = line_end t + 1} (omega arith))))
+-- ---- the text behind a line
 
 behind_short : (t : List ℕ) → (t ≡ [] → ⊥) → length (behind_line t) < length t
 behind_short [] f = absurd (f refl)
@@ -67,15 +52,15 @@ begins_split (k ∷ key) (b ∷ t) e =
 begins_not : (key t : List ℕ) → ((rest : List ℕ) → t ≡ key ++ rest → ⊥) → begins key t ≡ false
 begins_not key t f = either (begins key t) (λ e. absurd (f (drop (length key) t) (begins_split key t e))) (λ e. e)
 
--- what is left of a line when its key is stripped, and that nothing is where the line does not begin with it
-module _ (n : ℕ) (front key : List ℕ) (is : key ≡ key_of n) (r : Option (Bor (List ℕ)))
-    (cases : MatchOption r (pointwise eqb (take (length key) front) key ≡ false)
-    (λ v. (pointwise eqb (take (length key) front) key ≡ true) × (v.now ≡ drop (length key) front) × (length v.now + length key ≡ length front))) where
-  pub key_found : {v : Bor (List ℕ)} → r ≡ Some v → front ≡ key_of n ++ v.now
-  key_found e = rw is at (MatchOption-at_some _ _ _ e (strip_prefix_is Decides-eqb front key r cases))
+-- what is left of a text when the key of its first line is stripped, and that nothing is where it does not begin with it
+module _ (n : ℕ) (text key : List ℕ) (is : key ≡ key_of n) (r : Option (Bor (List ℕ)))
+    (cases : MatchOption r (pointwise eqb (take (length key) text) key ≡ false)
+    (λ v. (pointwise eqb (take (length key) text) key ≡ true) × (v.now ≡ drop (length key) text) × (length v.now + length key ≡ length text))) where
+  pub key_found : {v : Bor (List ℕ)} → r ≡ Some v → text ≡ key_of n ++ v.now
+  key_found e = rw is at (MatchOption-at_some _ _ _ e (strip_prefix_is Decides-eqb text key r cases))
 
-  pub key_missing : r ≡ None → (rest : List ℕ) → front ≡ key_of n ++ rest → ⊥
-  key_missing e = rw is at (MatchOption-at_none _ _ e (strip_prefix_is Decides-eqb front key r cases))
+  pub key_missing : r ≡ None → (rest : List ℕ) → text ≡ key_of n ++ rest → ⊥
+  key_missing e = rw is at (MatchOption-at_none _ _ e (strip_prefix_is Decides-eqb text key r cases))
 
 -- ---- a value that no question refuses
 
@@ -90,29 +75,41 @@ module _ (facts n : ℕ) (text : List ℕ) where
   unfolding split
   stops_missing e t f d = rw e (follow_missing n t d)
 
-  module _ (some : text ≡ [] → ⊥) (front : List ℕ) (is : front ≡ first_line text) where
-    pub stops_key : ((rest : List ℕ) → front ≡ key_of n ++ rest → ⊥) → Stops facts n text (WrongKey n)
+  module _ (some : text ≡ [] → ⊥) where
+    pub stops_key : ((rest : List ℕ) → text ≡ key_of n ++ rest → ⊥) → Stops facts n text (WrongKey n)
     stops_key h t f d =
-        let other : begins (key_of n) (first_line text) ≡ false = rw (← is) (begins_not (key_of n) front h) in
+        let split : text ≡ first_line text ++ drop (line_end text) text = sym (take-append-drop (line_end text) text) in
+        let other = begins_not (key_of n) (first_line text) (λ rest e. h (rest ++ drop (line_end text) text)
+        (split ∙ rw e (append_assoc (key_of n) rest (drop (line_end text) text)))) in
         ap (λ ls. follow ls n t) (lines_first text some) ∙ follow_key n t (first_line text) (lines (behind_line text)) d other
 
-    module _ (v : List ℕ) (key : front ≡ key_of n ++ v) (rest : List ℕ) (others : rest ≡ behind_line text) where
+    -- the value begins behind the key
+    module _ (u : List ℕ) (key : text ≡ key_of n ++ u) (v : List ℕ) (value : v ≡ first_line u) (rest : List ℕ) (others : rest ≡ behind_line u) where
+      front : first_line text ≡ key_of n ++ v
+      front = rw (key, value) (first_behind (key_of n) u (key_of_lem n).plain).0
+
+      behind : rest ≡ behind_line text
+      behind = others ∙ sym (rw key (first_behind (key_of n) u (key_of_lem n).plain).1)
+
       line : (t : Task) → t.facts ≡ facts → n ≤ last_line t
           → follow (lines text) n t ≡ judged (kind_of facts n) v n (follow (lines rest) (n + 1) (stored t n (content (kind_of facts n) v)))
       line t f d =
-          let begun : begins (key_of n) (first_line text) ≡ true = rw (← is, key) (begins_key (key_of n) v) in
-          let left : drop (length (key_of n)) (first_line text) ≡ v = rw (← is, key) (drop-append_seam (key_of n) v) in
-          ap (λ ls. follow ls n t) (lines_first text some) ∙ follow_value n t (first_line text) (lines (behind_line text)) d begun ∙ rw (f, left, others) refl
+          let begun : begins (key_of n) (first_line text) ≡ true = rw front (begins_key (key_of n) v) in
+          let left : drop (length (key_of n)) (first_line text) ≡ v = rw front (drop-append_seam (key_of n) v) in
+          ap (λ ls. follow ls n t) (lines_first text some) ∙ follow_value n t (first_line text) (lines (behind_line text)) d begun ∙ rw (f, left, behind) refl
 
       pub stops_value : (q : Refusal) → Answered (kind_of facts n) v n (Err q) → Stops facts n text q
       stops_value q a t f d =
           line t f d ∙ judged_no (kind_of facts n) v n (number_of q) _ (sym a.0) (λ z. omega (arith, number_some q, z)) ∙ ap (refused (number_of q)) (sym a.1)
 
+      pub stops_form : (InForm (kind_of facts n) v → ⊥) → Stops facts n text (Malformed n)
+      stops_form f = stops_value (Malformed n) (sym (fault_form (kind_of facts n) v f), refl)
+
       pub says_value : (x : ℕ) → Answered (kind_of facts n) v n (Ok x) → Says facts n text x rest
       says_value x a =
           record {
             small = rw a.1 (content_small (kind_of facts n) v (fine (kind_of facts n) v a.0).range);
-            shorter = rw others (behind_short text some);
+            shorter = rw behind (behind_short text some);
             goes = λ t f d. line t f d ∙ judged_yes (kind_of facts n) v n _ a.0 ∙ ap (λ (y : ℕ). follow (lines rest) (n + 1) (stored t n y)) (sym a.1);
           }
 

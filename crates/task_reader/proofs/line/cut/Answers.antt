@@ -1,21 +1,28 @@
 -- `task_reader::line::cut` meets its contract.
-use Rattle.std.specs.Prelude.{◌≡◌, eqb}
-use Rattle.std.proofs.Common.{rules, tests, sym, ◌∙◌}
-use Rattle.std.proofs.lemmas.Iterator.{YieldsList-from_slice}
-use Rattle.std.proofs.lemmas.Iterator.Search.{position_from_yields_List}
-use Rattle.task_format.specs.Text.{newline}
-use Rattle.task_reader.specs.Laws.Line.{place, cut_some, cut_none}
-use Rattle.task_reader.proofs.line.cut.Goals.{After-position}
+use Rattle.std.specs.Prelude.{ℕ, get_or}
+use Rattle.std.proofs.Common.{arith}
+use Rattle.task_format.specs.Text.{first_line}
+use Rattle.task_format.specs.Value.{InForm}
+use Rattle.task_reader.specs.Cut.{Adds}
+use Rattle.task_reader.specs.Laws.Cut.{cutting_start, cut_all, cut_here, cut_more, cut_not}
 use Rattle.task_reader.proofs.line.cut.Goals as goal
 
--- the call answers where the first newline is
-found : (c : After-position) → c.position.result ≡ place c.args.text.now
-found c =
-    position_from_yields_List (λ b. eqb b newline) _ _ _ c.position.ensures.ran (YieldsList-from_slice c.args.text.now (cc))
-    (λ x b q k. search (rules, tests))
+pub loop-i-init : goal.loop-i-init
+loop-i-init c = cutting_start _ _
 
-pub returns-in-Some : goal.returns-in-Some
-returns-in-Some c = cut_some c.args.text.now c.in-Some.end (sym (found (goal.at.returns-in-Some c).After-position) ∙ c.in-Some.is)
+pub returns-then-byte-eq10-clause-some : goal.returns-then-byte-eq10-clause-some
+returns-then-byte-eq10-clause-some c = let here = cut_here c.loop-i.invariant c.loop-i-test.true (omega arith) in grind arith
 
-pub returns-in-None : goal.returns-in-None
-returns-in-None c = cut_none c.args.text.now (sym (found (goal.at.returns-in-None c).After-position) ∙ c.in-None.is)
+pub loop-i-preserved : goal.loop-i-preserved
+loop-i-preserved c =
+    let adds : Adds c.args.kind c.loop-i.digits (get_or c.args.text.now c.loop-i.i 0) c.in_ok-digits.digits = grind arith in
+    cut_more c.loop-i.invariant c.loop-i-test.true (omega arith) _ adds
+
+pub returns-in_err-digits-clause-none : goal.returns-in_err-digits-clause-none
+returns-in_err-digits-clause-none c =
+    let none : (m : ℕ) → Adds c.args.kind c.loop-i.digits (get_or c.args.text.now c.loop-i.i 0) m → ⊥ = grind arith in
+    let unformed : InForm c.args.kind (first_line c.args.text.now) → ⊥ = cut_not c.loop-i.invariant c.loop-i-test.true (omega arith) none in
+    grind arith
+
+pub returns-clause-some : goal.returns-clause-some
+returns-clause-some c = let all = cut_all c.loop-i.invariant (omega arith) in grind arith
