@@ -1,7 +1,8 @@
 // Not for outsiders. Bytes put into a lent slice, one run behind the other.
 #![tactic(auto)]
 
-ghost use Rattle.std.specs.Prelude.{[], ◌∷◌, ◌+◌, ◌≤◌, length};
+ghost use Rattle.std.specs.Prelude.{◌≡◌, [], ◌∷◌, ◌+◌, ◌≤◌, length};
+ghost use Rattle.std.proofs.lemmas.List.Edits.{sets};
 ghost use Rattle.task_format.specs.Render.{digits_of};
 ghost use Rattle.text_output.specs.Puts.{number_digits, HasRoom, Begun, Puts};
 ghost use Rattle.text_output.specs.Filling.{MayPut, HasPut};
@@ -34,8 +35,10 @@ impl<'a> Output<'a> {
         ensures { Puts bytes.now self.old self.new }
     {
         let end = self.end + bytes.len();
-        let part = &mut self.bytes[self.end..end];
-        part.copy_from_slice(bytes);
+        // No `copy_from_slice`: the archive for C would then need `memmove` from outside.
+        for i in 0..bytes.len() {
+            self.bytes[self.end + i] = bytes[i];
+        }
         self.end = end;
     }
 
@@ -44,13 +47,24 @@ impl<'a> Output<'a> {
         requires { HasRoom (digits_of number_digits n) self.old }
         ensures { Puts (digits_of number_digits n) self.old self.new }
     {
-        if n < 10 {
-            self.put_byte(b'0' + n as u8);
-            return;
-        }
-        self.put_digits(n / 10);
-        self.put_byte(b'0' + (n % 10) as u8);
+        self.end = put_number(self.bytes, self.end, n);
     }
+}
+
+// The digits of n at a place of a slice, and the place behind them. It goes through the digits with that place in hand: kept in the output, each byte would
+// wait for the one before.
+fn put_number(bytes: &mut [u8], at: usize, n: u32) -> usize
+    requires { at + length (digits_of number_digits n) ≤ length bytes.old }
+    ensures text { bytes.new ≡ sets bytes.old at (digits_of number_digits n) }
+    ensures end { result ≡ at + length (digits_of number_digits n) }
+{
+    if n < 10 {
+        bytes[at] = b'0' + n as u8;
+        return at + 1;
+    }
+    let end = put_number(bytes, at, n / 10);
+    bytes[end] = b'0' + (n % 10) as u8;
+    end + 1
 }
 
 // What `put` puts at the front of a slice, and how many bytes it is.

@@ -1,6 +1,7 @@
 -- Runs of bytes joined, what is left of a run, and a run at the front of a slice.
-use Rattle.std.specs.Prelude.{◌≡◌, refl, List, [], ◌∷◌, ◌++◌, ℕ, suc, ◌+◌, ◌≤◌, length, set, take, drop}
-use Rattle.std.proofs.Common.{sym, ap, ◌∙◌, arith, add-zero, zero-add, length-append, append_assoc, drop-drop}
+use Rattle.std.specs.Prelude.{◌≡◌, refl, List, [], ◌∷◌, ◌++◌, ℕ, suc, ◌+◌, ◌≤◌, ◌<◌, length, get_or, set, take, drop}
+use Rattle.std.proofs.Common.{sym, ap, ◌∙◌, arith, add-zero, zero-add, length-append, take_all, length-set, length-take-le}
+use Rattle.std.proofs.lemmas.List.{take_more}
 use Rattle.std.proofs.lemmas.List.Edits.{sets, sets-eq}
 use Rattle.text_output.specs.Puts.{HasRoom, Puts}
 use Rattle.text_output.specs.declared.Output.{Output}
@@ -48,6 +49,29 @@ module _ {all rest : List ℕ} {o p : Output} (l : Left all o rest p) where
 pub put_over : (text out : List ℕ) → length text ≤ length out → sets out 0 text ≡ text ++ drop (length text) out
 put_over text out h = let d : 0 + length text ≤ length out = omega arith in sets-eq text out 0 d ∙ rw (zero-add (length text))
 
--- a run in the middle of a slice
-pub put_middle : (b l : List ℕ) (i : ℕ) → i + length b ≤ length l → take i l ++ (b ++ drop (length b) (drop i l)) ≡ sets l i b
-put_middle b l i h = sym (sets-eq b l i h ∙ append_assoc (take i l) b _ ∙ ap (λ (rest : List ℕ). take i l ++ (b ++ rest)) (sym (drop-drop (length b) i l)))
+-- the first i bytes are put, and the end stays before them
+pub record Putting (bytes : List ℕ) (o : Output) (i : ℕ) (p : Output) : Type 0 where
+  pub same : p.bytes.ghost_name ≡ o.bytes.ghost_name
+  pub text : p.bytes.now ≡ sets o.bytes.now o.end (take i bytes)
+  pub end : p.end ≡ o.end
+  pub size : length p.bytes.now ≡ length o.bytes.now
+
+pub putting_start : (bytes : List ℕ) (o : Output) → Putting bytes o 0 o
+putting_start bytes o = record { same = refl; text = refl; end = refl; size = refl }
+
+module _ {bytes : List ℕ} {o : Output} {i : ℕ} {p : Output} (s : Putting bytes o i p) where
+  pub putting_more : i < length bytes → let now = set p.bytes.now (p.end + i) (get_or bytes i 0) in
+      Putting bytes o (i + 1) (record { bytes = record { ref_ptr = p.bytes.ref_ptr; ghost_name = p.bytes.ghost_name; now = now }; end = p.end })
+  putting_more h =
+      let few : length (take i bytes) ≡ i = length-take-le i bytes (omega (arith, h)) in
+      let one = sets_append (take i bytes) (get_or bytes i 0 ∷ []) o.bytes.now o.end in
+      record {
+        same = s.same;
+        text = rw (s.text, s.end, take_more bytes i 0 h) (rw few at one);
+        end = s.end;
+        size = length-set p.bytes.now (p.end + i) (get_or bytes i 0) ∙ s.size;
+      }
+
+  -- the end is set behind them
+  pub putting_all : length bytes ≤ i → Puts bytes o (record { bytes = p.bytes; end = o.end + length bytes })
+  putting_all h = record { same = s.same; text = rw (take_all i bytes h) at s.text; end = refl; size = s.size }

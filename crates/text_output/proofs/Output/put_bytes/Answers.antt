@@ -1,18 +1,19 @@
 -- `text_output::Output::put_bytes` meets its contract.
-use Rattle.std.proofs.Common.{◌≡◌, refl, ap, ◌∙◌, arith, length, ◌+◌, ◌-◌}
-use Rattle.std.proofs.Math.Seq.{length-sets}
-use Rattle.text_output.specs.Laws.Puts.{put_middle}
+use Rattle.std.proofs.Common.{arith}
+use Rattle.text_output.specs.Laws.Puts.{putting_start, putting_more, putting_all}
 use Rattle.text_output.proofs.Output.put_bytes.Goals as goal
 
+pub loop-i-init : goal.loop-i-init
+loop-i-init c = putting_start _ _
+
+pub overflow_add-self : goal.overflow_add-self
+overflow_add-self c = omega (arith, c.loop-i.invariant.end)
+
+pub bounds-self-self : goal.bounds-self-self
+bounds-self-self c = omega (arith, c.loop-i.invariant.end, c.loop-i.invariant.size)
+
+pub loop-i-preserved : goal.loop-i-preserved
+loop-i-preserved c = putting_more c.loop-i.invariant c.loop-i-test.true
+
 pub returns : goal.returns
-returns c =
-    let o = c.args.self.now in
-    let b = c.args.bytes.now in
-    let few : o.end + length b - o.end ≡ length b = omega arith in
-    let middle = put_middle b o.bytes.now o.end (omega arith) in
-    record {
-      same = refl;
-      text = rw (c.copy_from_slice.ensures.after, few) middle;
-      end = refl;
-      size = rw (c.copy_from_slice.ensures.after, few) (ap length middle ∙ length-sets o.bytes.now o.end b);
-    }
+returns c = putting_all c.loop-i.invariant (omega arith)

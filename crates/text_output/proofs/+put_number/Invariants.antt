@@ -1,0 +1,5 @@
+-- The measure of `text_output::put_number` is the number.
+use Rattle.text_output.proofs.+put_number.Given as goal
+
+abbrev pub decreases-put_number : goal.decreases-put_number
+decreases-put_number l = l.n
