@@ -11,7 +11,7 @@ mod weights;
 
 pub use answer_call::best_response;
 use outcome::Answer;
-pub use reading::{Row, note, put_note, settled_row};
+pub use reading::{Row, note, put_note, rank, settled_row};
 pub use searches::solve;
 
 // The answer, and the number of steps of its plan: document 01 hands back both, 0 steps where the answer is none, and compares answers without them.

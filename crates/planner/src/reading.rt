@@ -4,7 +4,7 @@ ghost use Rattle.outcome.specs.Answer.{value_of};
 ghost use Rattle.search.specs.Limits.{max_places};
 ghost use Rattle.planner.specs.Inner.Columns.{Readable};
 ghost use Rattle.planner.specs.Inner.Key.{ResponseKey};
-ghost use Rattle.planner.specs.Reading.{reading_at, Short, settled_at, notes, Noted};
+ghost use Rattle.planner.specs.Reading.{reading_at, Short, rank_at, settled_at, notes, Noted};
 
 use least_plans::write_plan;
 use outcome::{Answer, Minutes, Price};
@@ -66,11 +66,11 @@ impl<'a> Row<'a> {
     }
 
     // Leader plans of one price are in the order of their ranks.
-    #[tactic(auto, unfolding(crate::specs::Inner::Columns::Readable, crate::specs::Reading::rank_at))]
+    #[tactic(auto, unfolding(crate::specs::Inner::Columns::Readable))]
     pub fn rank(&self) -> usize
         ensures { result ≡ self.now.rank }
     {
-        least_plans::rank(self.rows, self.i)
+        rank(self.rows, self.i)
     }
 
     // How many steps the leader plan has.
@@ -112,6 +112,15 @@ impl<'a> Row<'a> {
         }
         steps
     }
+}
+
+// The rank of row i, which need not be one that the searches have met.
+#[tactic(auto, unfolding(crate::specs::Reading::rank_at))]
+pub fn rank(rows: &[[u64; WORDS]], i: usize) -> usize
+    requires { i < length rows.now }
+    ensures { result ≡ rank_at rows.now i }
+{
+    least_plans::rank(rows, i)
 }
 
 // The row that was settled after p others.

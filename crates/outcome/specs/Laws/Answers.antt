@@ -24,6 +24,9 @@ below_up_to below_none = up_to_none
 pub none_below : {y : Value} → Below none y → ⊥
 none_below h = grind arith
 
+pub number_less : {a b : ℕ} → Below (minutes a) (minutes b) → a < b
+number_less h = grind arith
+
 pub below_trans : {x y z : Value} → Below x y → Below y z → Below x z
 below_trans (number_below {a = a} h) (number_below {b = b} k) = let l : a < b = omega arith in number_below l
 below_trans (number_below h) below_none = below_none

@@ -11,7 +11,7 @@ use Rattle.strips.specs.declared.Task.{Task}
 abbrev pub IsZero : Action → Type 0
 IsZero a = (a.cost ≡ 0) × ((a.precondition ≡ 0) × ((a.delete ≡ 0) × (a.add ≡ 0)))
 
-zero_idle : (a : Action) → IsZero a → a ≡ idle
+pub zero_idle : (a : Action) → IsZero a → a ≡ idle
 zero_idle a z = λ i. record { cost = z.0 i; precondition = z.1.0 i; delete = z.1.1.0 i; add = z.1.1.1 i }
 
 all_idle : {n : ℕ} {places : List Action} → AllOfLen IsZero places n → places ≡ replicate n idle
