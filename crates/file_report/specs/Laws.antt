@@ -1,3 +1,4 @@
 -- What is proved about the answers.
+pub mod Refused
 pub mod TextCall
 pub mod Printed

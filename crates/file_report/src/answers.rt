@@ -32,6 +32,7 @@ pub const INPUT_BYTES: usize = MAX_TEXT + 1;
 pub const OUTPUT_BYTES: usize = 8_192;
 
 // The report of the task that a text says, or the first question that gets no, with room for so many entries.
+#[tactic(auto, using(crate::specs::Laws::Refused::text_refused))]
 pub fn answer_in(
     text: &[u8],
     work: &mut Workspace<'_>,
