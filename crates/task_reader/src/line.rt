@@ -36,10 +36,13 @@ fn cut(text: &[u8], kind: Kind) -> Option<(&[u8], &[u8])>
 {
     let mut digits = 0;
     for (i, byte) in text.iter().enumerate() {
-        if *byte == b'\n' {
-            return Some((&text[..i], &text[i + 1..]));
-        }
-        digits = digits_with(kind, digits, *byte)?;
+        let Some(more) = digits_with(kind, digits, *byte) else {
+            if *byte == b'\n' {
+                return Some((&text[..i], &text[i + 1..]));
+            }
+            return None;
+        };
+        digits = more;
     }
     Some((text, &text[text.len()..]))
 }

@@ -100,6 +100,9 @@ module _ {kind : Kind} {text : List ℕ} {i n : ℕ} (c : Cutting kind text i n)
         let whole = take_all (length text - (i + 1)) rest (omega (arith, length-drop (i + 1) text)) in
         (sym (append-nil (take i text)) ∙ sym line, whole ∙ sym (rw (here, ends.1) at c.behind))
 
+    pub adds_plain : (m : ℕ) → Adds kind n byte m → byte ≡ newline → ⊥
+    adds_plain m a e = ⊎_elim (λ x. omega (arith, x.0, e)) (λ x. omega (arith, x.0, e)) a
+
     module _ (plain : byte ≡ newline → ⊥) where
       goes_on : InForm kind (first_line text) → Goes kind n (byte ∷ first_line rest)
       goes_on f = rw (here, (first_more byte rest plain).0) at (c.goes f)
