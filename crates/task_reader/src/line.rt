@@ -14,7 +14,7 @@ use strips::Task;
 use task_format::{Kind, MAX_DIGITS, key_of, kind_of, last_line};
 use value_reader::read_value;
 
-// How many digits of a number a value ends in with one byte more; none where that byte shows that question 4 gets no.
+// How many digits of a number a value ends in with one byte more; none where no such byte may stand there: at its end, or where question 4 gets no.
 fn digits_with(kind: Kind, digits: usize, byte: u8) -> Option<usize>
     ensures some { IfSome result (Adds kind digits byte) }
     ensures none { IfNone result ((n : ℕ) → Adds kind digits byte n → ⊥) }

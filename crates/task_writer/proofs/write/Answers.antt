@@ -1,9 +1,10 @@
 -- `task_writer::write` meets its contract.
-use Rattle.std.proofs.Common.{◌≡◌, rules, arith, Err}
+use Rattle.std.proofs.Common.{◌≡◌, ap, ◌∙◌, rules, arith, Err}
 use Rattle.std.proofs.Math.Seq.{take-append_seam}
 use Rattle.strips.specs.Task.{Valid}
 use Rattle.outcome.specs.declared.Refusal.TheVariants.{InvalidTask}
 use Rattle.task_format.specs.Render.{render}
+use Rattle.task_writer.specs.Written.{wrote, returned}
 use Rattle.task_writer.specs.Laws.Written.{write_invalid, write_valid, wrote_no, wrote_yes, roomy}
 use Rattle.task_writer.proofs.write.Goals.{In_ok-task}
 use Rattle.task_writer.proofs.write.Goals as goal
@@ -31,9 +32,13 @@ returns-then-out-n c =
     write_valid t c.args.out.now _ _ v.1 (wrote_no t c.args.out.now (omega (arith, made.bytes)))
 
 pub returns : goal.returns
+unfolding returned
 returns c =
     let t = c.args.task in
     let v = valid (goal.at.returns c).In_ok-task in
     let made = rw v.0 at c.write_text-n.ensures in
-    rw (c.copy_from_slice.ensures.after, made.text, made.bytes, take-append_seam (render t))
-    (write_valid t c.args.out.now _ _ v.1 (wrote_yes t c.args.out.now (omega (arith, made.bytes))))
+    let whole = write_valid t c.args.out.now _ _ v.1 (wrote_yes t c.args.out.now (omega (arith, made.bytes))) in
+    record {
+      output = rw (c.copy_from_slice.ensures.after, made.text, made.bytes, take-append_seam (render t)) whole.output;
+      answer = ap wrote (omega (arith, made.bytes)) ∙ whole.answer;
+    }

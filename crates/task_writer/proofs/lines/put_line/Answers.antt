@@ -34,4 +34,5 @@ pub returns : goal.returns
 returns c =
     let key = rw c.key_of.ensures at c.put_bytes.ensures in
     let value = rw (same (goal.at.returns c).After-field_of) at c.put_value.ensures in
-    rw (line_is c.args.task c.args.line) (puts_append key (puts_append value c.put_byte.ensures))
+    let put = puts_append key (puts_append value c.put_byte.ensures) in
+    rw (line_is c.args.task c.args.line) (record { same = put.same; text = put.text; end = omega (arith, put.end); size = put.size })
