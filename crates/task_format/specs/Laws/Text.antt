@@ -1,6 +1,7 @@
 -- Texts taken apart: the first line and the others, the first part of a list and the others; and what is known of each key.
 use Rattle.std.specs.Prelude.{◌≡◌, refl, List, [], ◌∷◌, ℕ, suc, ◌+◌, ◌%◌, ◌<◌, eqb, length}
-use Rattle.std.proofs.Common.{ap, arith, eq-eqb, ne_eqb, rules}
+use Rattle.std.proofs.Common.{ap, ◌∙◌, ⊎_elim, arith, eq-eqb, ne_eqb, rules}
+use Rattle.std.proofs.lemmas.Bool.{cases_eq}
 use Rattle.task_format.specs.Text.{newline, comma, push, split, lines, parts, line_end, first_line, behind_line}
 use Rattle.task_format.specs.Value.{All}
 use Rattle.task_format.specs.Lines.{key_of, action_key}
@@ -31,15 +32,25 @@ parts_some (b ∷ v) =
 
 -- ---- the lines of a text
 
+pub first_ends : (b : ℕ) (t : List ℕ) → b ≡ newline → (first_line (b ∷ t) ≡ []) × (behind_line (b ∷ t) ≡ t)
+first_ends b t e = rw (eq-eqb b newline e) (refl, refl)
+
+pub first_more : (b : ℕ) (t : List ℕ) → (b ≡ newline → ⊥) → (first_line (b ∷ t) ≡ b ∷ first_line t) × (behind_line (b ∷ t) ≡ behind_line t)
+first_more b t n =
+    let p : 1 + line_end t ≡ suc (line_end t) = omega arith in
+    let q : suc (line_end t) + 1 ≡ suc (line_end t + 1) = omega arith in
+    rw (ne_eqb b newline n, p, q) (refl, refl)
+
 pub lines_first : (t : List ℕ) → (t ≡ [] → ⊥) → lines t ≡ first_line t ∷ lines (behind_line t)
 unfolding split
 lines_first [] f = absurd (f refl)
 lines_first (b ∷ []) f = either (eqb b newline) (λ e. rw e) (λ e. rw e)
 lines_first (b ∷ (a ∷ t)) f =
     let r = lines_first (a ∷ t) (λ e. let z = ap length e in omega (arith, z)) in
-    let p : 1 + line_end (a ∷ t) ≡ suc (line_end (a ∷ t)) = omega arith in
-    let q : suc (line_end (a ∷ t)) + 1 ≡ suc (line_end (a ∷ t) + 1) = omega arith in
-    either (eqb b newline) (λ e. rw e) (λ e. rw (e, p, q) (ap (push b) r))
+    ⊎_elim
+    (λ (e : b ≡ newline). let ends = first_ends b (a ∷ t) e in rw (ends.0, ends.1) (split_at newline [] b (a ∷ t) e))
+    (λ (n : b ≡ newline → ⊥). let more = first_more b (a ∷ t) n in rw (more.0, more.1) (split_more newline [] b (a ∷ t) n ∙ ap (push b) r))
+    (cases_eq b newline)
 
 -- ---- keys
 

@@ -1,28 +1,18 @@
 -- A value gone over byte by byte: where a byte ends its line, and where one shows that question 4 gets no.
-use Rattle.std.specs.Prelude.{◌≡◌, refl, List, [], ◌∷◌, ◌++◌, ◌⊎◌, ℕ, suc, ◌+◌, ◌-◌, ◌≤◌, ◌<◌, length, get_or, take, drop}
-use Rattle.std.proofs.Common.{inl, inr, ⊎_elim, sym, ap, ◌∙◌, arith, rules, eq-eqb, ne_eqb, add-one}
+use Rattle.std.specs.Prelude.{◌≡◌, refl, List, [], ◌∷◌, ◌++◌, ◌⊎◌, ℕ, ◌+◌, ◌-◌, ◌≤◌, ◌<◌, length, get_or, take, drop}
+use Rattle.std.proofs.Common.{inl, inr, ⊎_elim, sym, ap, ◌∙◌, arith, rules, add-one}
 use Rattle.std.proofs.Common.{take_all, length-drop, drop_of_length-le, drop-cons, append-nil, append_assoc}
 use Rattle.std.proofs.lemmas.List.{take_more}
 use Rattle.task_format.specs.Limits.{max_digits}
-use Rattle.task_format.specs.Text.{newline, comma, push, parts, line_end, first_line, behind_line}
+use Rattle.task_format.specs.Text.{newline, comma, push, parts, first_line, behind_line}
 use Rattle.task_format.specs.Value.{All, IsDigit, Short, InForm}
-use Rattle.task_format.specs.Laws.Text.{Plain, parts_some, split_at, split_more}
+use Rattle.task_format.specs.Laws.Text.{Plain, parts_some, split_at, split_more, first_ends, first_more}
 use Rattle.task_format.specs.declared.Kind.{Kind}
 use Rattle.task_format.specs.declared.Kind.TheVariants.{Number, FactList}
 use Rattle.task_reader.specs.Cut.{Adds, Goes, Cutting}
 
--- ---- the first line, byte by byte
+-- ---- the first line behind a key
 
-pub first_ends : (b : ℕ) (t : List ℕ) → b ≡ newline → (first_line (b ∷ t) ≡ []) × (behind_line (b ∷ t) ≡ t)
-first_ends b t e = rw (eq-eqb b newline e) (refl, refl)
-
-pub first_more : (b : ℕ) (t : List ℕ) → (b ≡ newline → ⊥) → (first_line (b ∷ t) ≡ b ∷ first_line t) × (behind_line (b ∷ t) ≡ behind_line t)
-first_more b t n =
-    let p : 1 + line_end t ≡ suc (line_end t) = omega arith in
-    let q : suc (line_end t) + 1 ≡ suc (line_end t + 1) = omega arith in
-    rw (ne_eqb b newline n, p, q) (refl, refl)
-
--- behind a key it goes on
 pub first_behind : (key t : List ℕ) → Plain key → (first_line (key ++ t) ≡ key ++ first_line t) × (behind_line (key ++ t) ≡ behind_line t)
 first_behind [] t p = (refl, refl)
 first_behind (b ∷ key) t p =
